@@ -25,8 +25,10 @@ use Rattle.hub_bundle.specs.declared.input.InputFault.TheVariants.{TurnsSpent}
 use Rattle.hub_serve.specs.Reads.{Reads}
 use Rattle.hub_serve.specs.Mended.{is_mend}
 use Rattle.hub_serve.specs.Rounds.{BeginsAsClash}
-use Rattle.hub_serve.specs.Serves.{Holds, IsWholeUnlessFailed, SpellsClashes, SpellsGraph, SpellsReach, SpellsRounds, SpellsRoundsRun}
-use Rattle.hub_serve.specs.Serves.{ShowsImport, ShowsMend, TellsSafe, SpellsUnsafe, SpellsVerified, ServesInFull, Answers, AnswersNothing, WritesText}
+use Rattle.hub_serve.specs.Shown.{IsWholeUnlessFailed, SpellsClashes, SpellsGraph, SpellsReach, SpellsRounds, SpellsRoundsRun}
+use Rattle.hub_serve.specs.Told.{Holds}
+use Rattle.hub_serve.specs.Serves.{ServesInFull, Answers, AnswersNothing, WritesText}
+use Rattle.hub_serve.specs.Shown.{ShowsImport, ShowsMend, TellsSafe, SpellsUnsafe, SpellsVerified}
 use Rattle.hub_serve.proofs.FirstLines.{only_safe, only_clashes, only_graph, only_rounds, only_verified, only_overlaps, only_breaches, only_reached, only_not_reached}
 use Rattle.hub_serve.proofs.Imports.{only_import}
 use Rattle.hub_serve.proofs.Mending.{only_mended}

@@ -14,7 +14,7 @@ use Rattle.hub_cli.specs.declared.words.Reading.{Reading}
 use Rattle.hub_cli.specs.Words.{Request, about, reading_for}
 use Rattle.hub_serve.specs.declared.task.Task.{Task}
 use Rattle.hub_serve.specs.declared.task.Task.TheVariants as task
-use Rattle.hub_serve.specs.Serves.{FaultOf, IsRefusedFor}
+use Rattle.hub_serve.specs.Told.{FaultOf, IsRefusedFor}
 use Rattle.hub_serve.specs.Task.{AsksTask, task_of}
 
 -- The request by which alone this is asked for, of a bundle that has this state or none. A check, a run and certificates

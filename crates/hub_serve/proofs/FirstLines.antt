@@ -40,8 +40,9 @@ use Rattle.hub_cli.specs.declared.words.Reading.{Reading}
 use Rattle.hub_cli.specs.Words.{Request, about, reading_for, reading_of}
 use Rattle.hub_serve.specs.declared.task.Task.{Task}
 use Rattle.hub_serve.specs.declared.task.Task.TheVariants as task
-use Rattle.hub_serve.specs.Serves.{FollowsSafe, IsWholeUnlessFailed, IsRefusedFor, IsTrueOf, Holds, ShowsClashes, ShowsGraph, ShowsRounds, ShowsRoundsRun}
-use Rattle.hub_serve.specs.Serves.{SpellsClashes, SpellsGraph, SpellsRounds, SpellsRoundsRun, TellsSafe, SpellsUnsafe, SpellsVerified}
+use Rattle.hub_serve.specs.Shown.{FollowsSafe, IsWholeUnlessFailed, ShowsClashes, ShowsGraph, ShowsRounds, ShowsRoundsRun}
+use Rattle.hub_serve.specs.Told.{IsRefusedFor, IsTrueOf, Holds}
+use Rattle.hub_serve.specs.Shown.{SpellsClashes, SpellsGraph, SpellsRounds, SpellsRoundsRun, TellsSafe, SpellsUnsafe, SpellsVerified}
 use Rattle.hub_serve.specs.Rounds.{BeginsAsClash, DrawsClashes, ListsClashes, WritesRounds}
 use Rattle.hub_serve.specs.Runs.{HasRunAs, IsBelow, IsPrevented}
 use Rattle.hub_serve.specs.Mended.{is_mend}

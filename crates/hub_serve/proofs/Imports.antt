@@ -17,7 +17,8 @@ use Rattle.hub_report.specs.declared.reach_answer.ReachAnswer.{ReachAnswer}
 use Rattle.hub_report.specs.declared.reach_answer.ReachAnswer.TheVariants.{Reached, NotReached, NoProfile, BadPath}
 use Rattle.hub_report.specs.Report.{status_of, text_of}
 use Rattle.hub_serve.specs.declared.task.Task.{Task}
-use Rattle.hub_serve.specs.Serves.{Holds, IsToldOfReach, IsWholeUnlessFailed, ShowsImport}
+use Rattle.hub_serve.specs.Shown.{IsWholeUnlessFailed, ShowsImport}
+use Rattle.hub_serve.specs.Told.{Holds, IsToldOfReach}
 use Rattle.hub_serve.specs.Task.{AsksTask}
 use Rattle.hub_serve.specs.Unison.{SpellsAs}
 use Rattle.hub_serve.proofs.InUnison.{safe-in_unison}

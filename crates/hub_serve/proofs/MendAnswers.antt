@@ -21,7 +21,7 @@ use Rattle.hub_report.specs.Report.{TellsRefusal}
 use Rattle.hub_serve.specs.declared.task.Task.{Task}
 use Rattle.hub_serve.specs.declared.task.Task.TheVariants as task
 use Rattle.hub_serve.specs.Mended.{Mends, mend_text}
-use Rattle.hub_serve.specs.Serves.{Holds, IsRefusedFor, IsTold, IsToldRefused, SaysOf}
+use Rattle.hub_serve.specs.Told.{Holds, IsRefusedFor, IsTold, IsToldRefused, SaysOf}
 use Rattle.hub_serve.specs.Task.{AsksTask, task_of}
 use Rattle.hub_serve.specs.Unison.{SpellsAs}
 

@@ -15,7 +15,8 @@ use Rattle.hub_report.specs.declared.reach_answer.ReachAnswer.TheVariants.{Reach
 use Rattle.hub_report.specs.Report.{status_of, text_of}
 use Rattle.hub_serve.specs.declared.task.Task.{Task}
 use Rattle.hub_serve.specs.Mended.{Mends, is_mend, mend_text}
-use Rattle.hub_serve.specs.Serves.{Holds, IsMended, IsToldOfReach, IsWholeUnlessFailed, SaysOf, ShowsMend}
+use Rattle.hub_serve.specs.Shown.{IsWholeUnlessFailed, ShowsMend}
+use Rattle.hub_serve.specs.Told.{Holds, IsMended, IsToldOfReach, SaysOf}
 use Rattle.hub_serve.specs.Task.{AsksTask}
 use Rattle.hub_serve.proofs.InUnison.{safe-in_unison}
 

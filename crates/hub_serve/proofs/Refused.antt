@@ -9,7 +9,7 @@ use Rattle.hub_bundle.specs.declared.sections.BundleContents.{BundleContents}
 use Rattle.hub_bundle.specs.Sections.{members}
 use Rattle.hub_serve.specs.declared.task.Task.{Task}
 use Rattle.hub_serve.specs.declared.task.Task.TheVariants as task
-use Rattle.hub_serve.specs.Serves.{IsRefusedFor}
+use Rattle.hub_serve.specs.Told.{IsRefusedFor}
 
 -- What is shown of a set that isn't safe.
 abbrev pub OverlapsShown : Type 0

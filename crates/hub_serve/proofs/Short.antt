@@ -14,7 +14,8 @@ use Rattle.hub_serve.specs.declared.task.Task.TheVariants as task
 use Rattle.hub_serve.specs.Mended.{asks_mend}
 use Rattle.hub_serve.specs.Reads.{Reads}
 use Rattle.hub_serve.specs.Runs.{IsBelow}
-use Rattle.hub_serve.specs.Serves.{Answers, AnswersNothing, Serves, ServesInFull, SpellsRounds, SpellsRoundsRun, SpellsSafe, TellsSafe, WritesText, may_be_safe}
+use Rattle.hub_serve.specs.Serves.{Answers, AnswersNothing, Serves, ServesInFull, WritesText}
+use Rattle.hub_serve.specs.Shown.{SpellsRounds, SpellsRoundsRun, SpellsSafe, TellsSafe, may_be_safe}
 use Rattle.hub_serve.specs.Task.{task_of}
 use Rattle.hub_serve.proofs.Answered.{serves-asked, serves-refused}
 use Rattle.hub_serve.proofs.Refused.{BreachesShown, OverlapsShown}

@@ -37,7 +37,7 @@ use Rattle.hub_report.specs.declared.report.Report.TheVariants.{Faulty, Reach, N
 use Rattle.hub_report.specs.declared.report.Report.TheVariants.{Imported, NotImported, Mended, NotMended}
 use Rattle.hub_serve.specs.declared.task.Task.{Task}
 use Rattle.hub_report.specs.Report.{TellsRefusal, has_no_numbers}
-use Rattle.hub_serve.specs.Serves.{FaultOf, HasBadPath, Holds, IsTold, IsToldOfSet, IsUnspelled, puts_apart}
+use Rattle.hub_serve.specs.Told.{FaultOf, HasBadPath, Holds, IsTold, IsToldOfSet, IsUnspelled, puts_apart}
 use Rattle.hub_serve.specs.Rounds.{DrawsClashes}
 use Rattle.hub_serve.specs.Task.{AsksTask, LacksState, task_of}
 use Rattle.hub_serve.specs.Unison.{SpellsAs, SpellsCounted, counted_as}

@@ -1,6 +1,6 @@
 -- Runs of the rounds of a set, one after another and in one state.
 use Rattle.std.specs.Prelude.{◌≡◌, ◌≢◌, ◌⊎◌, ◌↔◌, ◌<◌, ◌∷◌, ◌++◌, ⊤, ℕ, Bool, true, false}
-use Rattle.std.specs.Prelude.{Contains, List, [], drop, length, Option, None, Some, string_bytes}
+use Rattle.std.specs.Prelude.{Contains, IfErr, IfOk, Result, List, [], drop, length, Option, None, Some, string_bytes}
 use Rattle.std.specs.List.{find}
 use Rattle.hub_profile.specs.Parts.{Parts}
 use Rattle.hub_profile.specs.declared.rule.Rule.{Rule}
@@ -15,7 +15,7 @@ use Rattle.hub_runner.specs.Working.{AreWorkers, MayRun}
 use Rattle.hub_runner.specs.declared.runs.TheConstants.{WORKERS}
 use Rattle.hub_rounds.specs.Lines.{subject_of}
 use Rattle.hub_rounds.specs.Rounds.{AreRounds}
-use Rattle.hub_rounds.specs.Unverified.{RefusesRound}
+use Rattle.hub_rounds.specs.Unverified.{RefusesRound, is_memory}
 use Rattle.hub_rounds.specs.declared.rounds.Rounds.{Rounds}
 use Rattle.hub_rounds.specs.declared.subject.Subject.{Subject}
 use Rattle.hub_rounds.specs.declared.subject.Subject.TheVariants.{Pair, Alone, Nothing}
@@ -28,6 +28,7 @@ use Rattle.hub_serve.specs.declared.run.Attempt.TheVariants.{Ran, NotRun}
 use Rattle.hub_serve.specs.declared.task.Task.{Task}
 use Rattle.hub_serve.specs.declared.task.Task.TheVariants as task
 use Rattle.hub_serve.specs.Runs.{ComesOf, IsRunOn, PreventsRun}
+use Rattle.hub_serve.specs.Rounds.{HasUnverifiedRound}
 
 -- The profiles of a round, with the rules of the set.
 abbrev pub round_set : List Rule → List Parts → Members
@@ -177,3 +178,9 @@ pub record AddsRound (Rs : List Rule) (Ps : List Parts) (n : ℕ) (old new : Rou
   pub safe : IsSafeSet (round_set Rs Ps)
   pub came : ComesOf (round_set Rs Ps) old.state n attempt
   pub added : IsAdded attempt old new
+
+-- It holds of what was run by rounds, where this came of it.
+abbrev pub OfRoundsRun : Result RoundsRun CheckFault → (Members → ℕ → State → Type 0) → Type 0
+OfRoundsRun run C =
+    (M : Members) (n : ℕ) (S : State) → IfOk run (HasRunByRounds M n S)
+    → IfErr run (λ e. is_memory e ≡ false → HasUnverifiedRound M) → C M n S

@@ -7,5 +7,8 @@ pub mod Unison
 pub mod ByRounds
 pub mod Mended
 pub mod Serves
+pub mod Told
+pub mod Shown
 pub mod forms
 pub mod laws
+pub mod examples

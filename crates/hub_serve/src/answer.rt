@@ -5,7 +5,7 @@ ghost use Rattle.hub_bundle.specs.Sections.{Spells};
 ghost use Rattle.hub_cli.specs.Words.{about, reading_for, request_of};
 ghost use Rattle.hub_report.specs.Report.{says_read_failed, unread_by};
 ghost use Rattle.hub_serve.specs.Reads.{AreSpent, reads_between};
-ghost use Rattle.hub_serve.specs.Serves as report;
+ghost use Rattle.hub_serve.specs.Told as told;
 ghost use Rattle.hub_serve.specs.Unison.{IsReadAs, SpellsAs, SpellsCounted};
 
 use crate::import::report_on_import;
@@ -38,7 +38,7 @@ pub fn report_on<'a, T: Threads + Wait + Sync, R: Read, P: Progress + Sync>(
 ) -> Report<'a>
     requires { input.old.failed ≡ false }
     ensures holds { IfSome (R.remaining input.old.device) (λ bytes.
-        report.Holds (request_of asked.entry) bytes result) }
+        told.Holds (request_of asked.entry) bytes result) }
     ensures failed { input.new.failed ≡ says_read_failed result }
     ensures spent { unread_by result ≡ Some InputFault.TurnsSpent
         → AreSpent (reads_between input.old input.new) }
@@ -60,7 +60,7 @@ fn report_on_bytes<'a, T: Threads + Wait + Sync, P: Progress + Sync>(
     bytes: Vec<u8>,
     progress: &P,
 ) -> Report<'a>
-    ensures holds { report.Holds (request_of asked.entry) bytes.items result }
+    ensures holds { told.Holds (request_of asked.entry) bytes.items result }
     ensures read { unread_by result ≡ None }
 {
     match asked {
@@ -92,7 +92,7 @@ fn report_on_question<'a, T: Threads + Wait + Sync, P: Progress + Sync>(
     bytes: Vec<u8>,
     progress: &P,
 ) -> Report<'a>
-    ensures holds { report.Holds (about question) bytes.items result }
+    ensures holds { told.Holds (about question) bytes.items result }
     ensures read { unread_by result ≡ None }
 {
     match contents_in(alloc, Query::About(question), bytes) {
@@ -108,7 +108,7 @@ pub(crate) fn contents_in<'a>(
     bytes: Vec<u8>,
 ) -> Result<BundleContents, Report<'a>>
     ensures spelled { IfOk result (SpellsAs (reading_for (request_of asked.entry)) bytes.items) }
-    ensures faulty { IfErr result (report.Holds (request_of asked.entry) bytes.items) }
+    ensures faulty { IfErr result (told.Holds (request_of asked.entry) bytes.items) }
     ensures read { IfErr result (λ r. unread_by r ≡ None) }
 {
     let reading = asked.reading();
@@ -125,7 +125,7 @@ fn counted_contents<'a>(
     counted: Vec<u8>,
 ) -> Result<BundleContents, Report<'a>>
     ensures spelled { IfOk result (SpellsCounted reading counted.items) }
-    ensures faulty { IfErr result (report.IsUnspelled counted.items) }
+    ensures faulty { IfErr result (told.IsUnspelled counted.items) }
     ensures read { IfErr result (λ r. unread_by r ≡ None) }
 {
     match own_contents(alloc, counted) {
@@ -152,7 +152,7 @@ fn contents_as<'a>(
 /// What a bundle says with all of its sections, or the answer if it can't be read. Its bytes are dropped.
 fn own_contents<'a>(alloc: Global, bytes: Vec<u8>) -> Result<BundleContents, Report<'a>>
     ensures spelled { IfOk result (λ c. Spells bytes.items c) }
-    ensures faulty { IfErr result (report.IsUnspelled bytes.items) }
+    ensures faulty { IfErr result (told.IsUnspelled bytes.items) }
     ensures read { IfErr result (λ r. unread_by r ≡ None) }
 {
     let sections = match read_bundle(alloc, bytes.as_slice()) {

@@ -10,9 +10,9 @@ ghost use Rattle.hub_rounds.specs.Unverified.{RefusesRound};
 ghost use Rattle.hub_runner.specs.Working.{AreWorkers};
 ghost use Rattle.hub_report.specs.Report.{unread_by};
 ghost use Rattle.hub_serve.specs.ByRounds as spec;
-ghost use Rattle.hub_serve.specs.ByRounds.{HasRunByRounds, HaveRun, IsAdded, IsBegun, AddsRound};
+ghost use Rattle.hub_serve.specs.ByRounds.{HaveRun, IsAdded, IsBegun, AddsRound, OfRoundsRun};
 ghost use Rattle.hub_serve.specs.ByRounds.{RefusesOneOf, RefusesWorkers};
-ghost use Rattle.hub_serve.specs.Serves.{IsToldOfSet};
+ghost use Rattle.hub_serve.specs.Told.{IsToldOfSet};
 ghost use Rattle.hub_serve.specs.Rounds.{HasUnverifiedRound};
 ghost use Rattle.hub_serve.specs.declared.task.Task.TheVariants as task;
 
@@ -91,9 +91,8 @@ fn report_on_all<'a, T: Threads + Wait + Sync, P: Progress + Sync>(
 
 /// The answer with a run by rounds, or that a round wasn't verified. Tests show no such round.
 fn report_on_run<'a>(run: Result<RoundsRun, CheckFault>) -> Report<'a>
-    ensures told { (M : Members) (n : ℕ) (S : StateValue) → IfOk run (HasRunByRounds M n S)
-        → IfErr run (λ e. unverified.is_memory e ≡ false → HasUnverifiedRound M)
-        → (cs : List Certificate) → IsToldOfSet (task.RunByRounds n S) M cs result }
+    ensures told { OfRoundsRun run
+        (λ M n S. (cs : List Certificate) → IsToldOfSet (task.RunByRounds n S) M cs result) }
     ensures read { unread_by result ≡ None }
 {
     match run {

@@ -2,7 +2,7 @@
 ghost use Rattle.std.specs.Prelude.{◌≡◌, None};
 ghost use Rattle.hub_cli.specs.Words.{imported};
 ghost use Rattle.hub_report.specs.Report.{unread_by};
-ghost use Rattle.hub_serve.specs.Serves as report;
+ghost use Rattle.hub_serve.specs.Told as told;
 
 use hub_bundle::BundleContents;
 use hub_import::{BundleUnwritten, write_bundle};
@@ -11,7 +11,7 @@ use std::alloc::Global;
 
 /// The answer with the text of a bundle that says the same profiles and rules.
 pub fn report_on_import<'a>(alloc: Global, contents: &BundleContents) -> Report<'a>
-    ensures told { report.IsTold imported contents.now result }
+    ensures told { told.IsTold imported contents.now result }
     ensures read { unread_by result ≡ None }
 {
     match write_bundle(

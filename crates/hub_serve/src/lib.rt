@@ -23,11 +23,11 @@
 //! - The answer is a `Report` of `hub_report`. It is written as one line, as the certificates' text, or as `safe` and below it
 //!   what the jobs did and the state that they left (`program`).
 //!
-//! The contracts use the words of `specs/Serves` (which answer is right, and what the program does as a whole), `specs/Reads`
-//! (the reads of the input), `specs/Unison` (what is spelled if the profiles are read for Unison), `specs/Mended` (what is spelled with
-//! lines that were found), `specs/Task` (what is to be
-//! done), `specs/Runs` (what is written of a run), `specs/ByRounds` (what a run by rounds does and leaves) and `specs/Rounds`
-//! (what is written of clashes and rounds).
+//! The contracts use the words of `specs/Serves` (what the program does as a whole), `specs/Told` (which answer is right),
+//! `specs/Shown` (what a first line shows), `specs/Reads` (the reads of the input), `specs/Unison` (what is spelled if the profiles
+//! are read for Unison), `specs/Mended` (what is spelled with lines that were found), `specs/Task` (what is to be done), `specs/Runs`
+//! (what is written of a run), `specs/ByRounds` (what a run by rounds does and leaves) and `specs/Rounds` (what is written of
+//! clashes and rounds).
 //!
 //! Only functions that return a `Result` or a `Report`, or write an answer, allocate.
 //!

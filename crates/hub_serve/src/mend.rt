@@ -1,17 +1,15 @@
 //! Lines that make the set of a bundle's profiles and rules safe.
-ghost use Rattle.std.specs.Prelude.{◌≡◌, ◌⊎◌, ℕ, List, true, IfErr, IfOk, None};
+ghost use Rattle.std.specs.Prelude.{◌≡◌, ◌⊎◌, true, IfErr, IfOk, None};
 ghost use Rattle.hub_cli.specs.Words.{about, mended, reading_for, request_of};
 ghost use Rattle.hub_cli.specs.declared.words.Question.TheVariants as ask;
 ghost use Rattle.hub_bundle.specs.Sections.{members};
 ghost use Rattle.hub_cert.specs.Set.{IsSafeSet};
 ghost use Rattle.hub_mend.specs.Additions as lines;
-ghost use Rattle.hub_mend.specs.Additions.{own_text};
 ghost use Rattle.hub_mend.specs.TakesAway.{AllTakeAway};
 ghost use Rattle.hub_report.specs.Report.{unread_by};
 ghost use Rattle.hub_serve.specs.Mended as spec;
-ghost use Rattle.hub_serve.specs.forms.Mending.{HoldsIf};
-ghost use Rattle.hub_serve.specs.Serves as report;
-ghost use Rattle.hub_serve.specs.Unison.{SpellsAs};
+ghost use Rattle.hub_serve.specs.forms.Mending.{HoldsIf, MendsTextOf};
+ghost use Rattle.hub_serve.specs.Told as told;
 
 use crate::answer::contents_in;
 use crate::progress::Progress;
@@ -38,7 +36,7 @@ pub fn report_on_mend<'a, T: Threads + Wait + Sync, P: Progress + Sync>(
     bytes: Vec<u8>,
     progress: &P,
 ) -> Report<'a>
-    ensures holds { report.Holds (mended reading as_bundle) bytes.items result }
+    ensures holds { told.Holds (mended reading as_bundle) bytes.items result }
     ensures read { unread_by result ≡ None }
 {
     let Ok(pieces) = pieces_with_lines(alloc, bytes.as_slice(), is_for_unison(reading)) else {
@@ -76,9 +74,8 @@ fn new_contents<'a>(
     old: &BundleContents,
     pieces: &[Piece],
 ) -> Result<BundleContents, Report<'a>>
-    ensures mends { IfOk result (λ new. (bytes : List ℕ)
-        → SpellsAs (reading_for (request_of asked.entry)) bytes old.now → bytes ≡ own_text pieces.now
-        → spec.Mends (reading_for (request_of asked.entry)) bytes pieces.now new) }
+    ensures mends { IfOk result
+        (MendsTextOf (reading_for (request_of asked.entry)) old.now pieces.now) }
     ensures unmended { IfErr result (λ r. (r ≡ Report.OutOfMemory) ⊎ (r ≡ Report.NotMended)) }
 {
     let Ok(text) = mended_text(alloc, pieces) else {
@@ -114,7 +111,7 @@ fn report_on_said<'a>(
     said: Report<'a>,
 ) -> Report<'a>
     ensures told { HoldsIf pieces.now as_bundle
-        (λ reading new. report.IsTold (about (ask.Check reading)) new said.entry) result }
+        (λ reading new. told.IsTold (about (ask.Check reading)) new said.entry) result }
     ensures read { unread_by result ≡ None }
 {
     match said {
@@ -133,7 +130,7 @@ fn report_on_verdict<'a>(
     verdict: Verdict,
 ) -> Report<'a>
     ensures told { HoldsIf pieces.now as_bundle
-        (λ reading new. report.IsTold (about (ask.Check reading)) new (Report.Verdict verdict))
+        (λ reading new. told.IsTold (about (ask.Check reading)) new (Report.Verdict verdict))
         result }
     ensures read { unread_by result ≡ None }
 {
@@ -166,7 +163,7 @@ fn report_with<'a>(
     safe: bool,
 ) -> Report<'a>
     ensures told { HoldsIf pieces.now as_bundle
-        (λ _ new. report.SaysOf safe new (lines.line_count pieces.now) line.now) result }
+        (λ _ new. told.SaysOf safe new (lines.line_count pieces.now) line.now) result }
     ensures read { unread_by result ≡ None }
 {
     match text_with(alloc, as_bundle, pieces, line) {

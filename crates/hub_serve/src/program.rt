@@ -7,7 +7,7 @@ ghost use Rattle.hub_report.specs.Blocks.{bytes_in};
 ghost use Rattle.hub_cli.specs.ClapWords.{kind_of};
 ghost use Rattle.hub_cli.specs.Words.{asked_of, request_of};
 ghost use Rattle.hub_serve.specs.Reads.{reads_between};
-ghost use Rattle.hub_serve.specs.Serves.{Answers, AnswersNothing, Serves, ServesInFull, WritesText};
+ghost use Rattle.hub_serve.specs.Serves.{Answers, AnswersNothing, Serves, WritesText, ServesOver};
 
 use crate::answer::report_on;
 use crate::laws::what_is_shown_is_not_safe;
@@ -43,9 +43,8 @@ pub fn serve_process<
     ensures first { IfOk words (λ v. Serves (asked_of (map string_bytes v.items))
         (R.remaining input.old.device) (W.contents output.old.device) (W.contents output.new.device)
         output.new.failed result) }
-    ensures read { IfOk words (λ v. ServesInFull (asked_of (map string_bytes v.items))
-        (R.remaining input.old.device) (W.contents output.old.device) (W.contents output.new.device)
-        (reads_between input.old input.new) output.new.failed result) }
+    ensures read { IfOk words (λ v. ServesOver input.old input.new output.old output.new
+        R.remaining W.contents (asked_of (map string_bytes v.items)) result) }
     ensures unread { IfErr words (λ _. AnswersNothing
         (W.contents output.old.device) (W.contents output.new.device) result) }
 {
@@ -85,9 +84,8 @@ pub fn serve<
     requires output { output.old.failed ≡ false }
     ensures first { Serves (asked_of (map S.text words.entry.now)) (R.remaining input.old.device)
         (W.contents output.old.device) (W.contents output.new.device) output.new.failed result }
-    ensures full { ServesInFull (asked_of (map S.text words.entry.now)) (R.remaining input.old.device)
-        (W.contents output.old.device) (W.contents output.new.device)
-        (reads_between input.old input.new) output.new.failed result }
+    ensures full { ServesOver input.old input.new output.old output.new R.remaining W.contents
+        (asked_of (map S.text words.entry.now)) result }
 {
     what_is_shown_is_not_safe();
     let alloc = rt.alloc();

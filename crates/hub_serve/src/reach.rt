@@ -2,7 +2,7 @@
 ghost use Rattle.std.specs.Prelude.{◌≡◌, ◌⊎◌, Some, None, MatchOption};
 ghost use Rattle.hub_cli.specs.Words as words;
 ghost use Rattle.hub_report.specs.Report.{unread_by};
-ghost use Rattle.hub_serve.specs.Serves as report;
+ghost use Rattle.hub_serve.specs.Told as told;
 ghost use Rattle.hub_serve.specs.Reached.{first_named};
 
 use hub_bundle::BundleContents;
@@ -24,7 +24,7 @@ pub fn report_on_reach<'a>(
     profile: &'a str,
     path: &str,
 ) -> Report<'a>
-    ensures told { report.IsTold (words.reach reading profile.now path.now) contents.now result }
+    ensures told { told.IsTold (words.reach reading profile.now path.now) contents.now result }
     ensures read { unread_by result ≡ None }
 {
     // the contents were read so already: it is here for the contract

@@ -4,10 +4,10 @@ ghost use Rattle.std.specs.List.{list_any};
 ghost use Rattle.hub_cert.specs.declared.certificate.Certificate.{Certificate};
 ghost use Rattle.hub_cert.specs.Set.{Members};
 ghost use Rattle.hub_apart.specs.Apart as apart;
-ghost use Rattle.hub_apart.specs.ApartLines.{AreLines, AreLinesApart};
+ghost use Rattle.hub_apart.specs.ApartLines.{AreLines};
 ghost use Rattle.hub_rounds.specs.Rounds.{AreRounds};
 ghost use Rattle.hub_report.specs.Report.{unread_by};
-ghost use Rattle.hub_serve.specs.Serves as report;
+ghost use Rattle.hub_serve.specs.Told as told;
 ghost use Rattle.hub_serve.specs.Rounds as rounds;
 ghost use Rattle.hub_serve.specs.Rounds.{DrawsClashes, IsUncut, WritesRounds};
 ghost use Rattle.hub_serve.specs.declared.task.Task.TheVariants as task;
@@ -25,7 +25,7 @@ use std::alloc::{AllocError, Global};
 
 /// The answer with all that clashes in a set and all that breaks a rule, or that it is safe if nothing does.
 pub fn report_on_clashes<'a>(alloc: Global, set: &ProfileSet) -> Report<'a>
-    ensures told { (cs : List Certificate) → report.IsToldOfSet task.Clashes set.now cs result }
+    ensures told { (cs : List Certificate) → told.IsToldOfSet task.Clashes set.now cs result }
     ensures read { unread_by result ≡ None }
 {
     let Ok(clashes) = clashes_of(alloc, set) else {
@@ -42,7 +42,7 @@ pub fn report_on_clashes<'a>(alloc: Global, set: &ProfileSet) -> Report<'a>
 
 /// The answer with a graph of a set and of all that clashes in it.
 pub fn report_on_graph<'a>(alloc: Global, set: &ProfileSet) -> Report<'a>
-    ensures told { (cs : List Certificate) → report.IsToldOfSet task.Graph set.now cs result }
+    ensures told { (cs : List Certificate) → told.IsToldOfSet task.Graph set.now cs result }
     ensures read { unread_by result ≡ None }
 {
     match graph_of(alloc, set) {
@@ -63,7 +63,7 @@ fn graph_of(alloc: Global, set: &ProfileSet) -> Result<Graph, AllocError>
 
 /// The answer with the rounds of a set.
 pub fn report_on_rounds<'a>(alloc: Global, set: ProfileSet) -> Report<'a>
-    ensures told { (cs : List Certificate) → report.IsToldOfSet task.Rounds set cs result }
+    ensures told { (cs : List Certificate) → told.IsToldOfSet task.Rounds set cs result }
     ensures read { unread_by result ≡ None }
 {
     report_on_cut(cut(alloc, set))
@@ -77,7 +77,7 @@ pub fn report_on_rounds_apart<'a>(
 ) -> Report<'a>
     ensures told { (S : Members) → S.profiles ≡ profiles → S.rules ≡ rules
         → apart.are_put_apart S ≡ true → (cs : List Certificate)
-        → report.IsToldOfSet task.Rounds S cs result }
+        → told.IsToldOfSet task.Rounds S cs result }
     ensures read { unread_by result ≡ None }
 {
     match lines_apart(alloc, profiles, rules) {
@@ -91,7 +91,7 @@ fn report_on_cut<'a>(made: Result<Cut, RoundsFault>) -> Report<'a>
     ensures told { (S : Members)
         → IfOk made (λ c. WritesRounds S (string_bytes c.text) c.decided)
         → IfErr made (IsUncut S) → (cs : List Certificate)
-        → report.IsToldOfSet task.Rounds S cs result }
+        → told.IsToldOfSet task.Rounds S cs result }
     ensures read { unread_by result ≡ None }
 {
     match made {

@@ -7,7 +7,7 @@ ghost use Rattle.hub_state.specs.State.{State};
 ghost use Rattle.hub_schedule.specs.Simulated.{AreFinished, HaveEnded, IsPromised};
 ghost use Rattle.hub_runner.specs.Working.{IsNotRun, MayRun};
 ghost use Rattle.hub_report.specs.Report.{unread_by};
-ghost use Rattle.hub_serve.specs.Serves as report;
+ghost use Rattle.hub_serve.specs.Told as told;
 ghost use Rattle.hub_serve.specs.Runs.{ComesOf, HasRun, IsRunOn, PreventsRun, answer_of, attempt_of, error_of};
 ghost use Rattle.hub_serve.specs.declared.task.Task.TheVariants as task;
 
@@ -40,7 +40,7 @@ pub fn run_set<'a, T: Threads + Wait + Sync, P: Progress + Sync>(
     workers: u8,
     progress: &P,
 ) -> Report<'a>
-    ensures told { (cs : List Certificate) → report.IsToldOfSet (task.RunJobs workers state.now)
+    ensures told { (cs : List Certificate) → told.IsToldOfSet (task.RunJobs workers state.now)
         verified.now cs result }
     ensures read { unread_by result ≡ None }
 {
@@ -53,7 +53,7 @@ pub fn run_set<'a, T: Threads + Wait + Sync, P: Progress + Sync>(
 /// The answer with what came of the attempt to run the jobs.
 fn report_on_attempt<'a>(attempt: Attempt) -> Report<'a>
     ensures told { (M : Members) (S : State) (n : ℕ) → IsSafeSet M → ComesOf M S n attempt
-        → (cs : List Certificate) → report.IsToldOfSet (task.RunJobs n S) M cs result }
+        → (cs : List Certificate) → told.IsToldOfSet (task.RunJobs n S) M cs result }
     ensures same { result ≡ Report.Run (answer_of attempt) }
     ensures read { unread_by result ≡ None }
 {

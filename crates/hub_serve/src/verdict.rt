@@ -4,7 +4,7 @@ ghost use Rattle.hub_cert.specs.declared.certificate.Certificate.{Certificate};
 ghost use Rattle.hub_cert.specs.Set.{Members};
 ghost use Rattle.hub_report.specs.Report.{unread_by};
 ghost use Rattle.hub_cli.specs.Words.{about};
-ghost use Rattle.hub_serve.specs.Serves as report;
+ghost use Rattle.hub_serve.specs.Told as told;
 ghost use Rattle.hub_serve.specs.declared.task.Task.{Task};
 ghost use Rattle.hub_serve.specs.declared.task.Task.TheVariants as task;
 
@@ -34,7 +34,7 @@ pub fn report_on_set<'a, T: Threads + Wait + Sync, P: Progress + Sync>(
     contents: BundleContents,
     progress: &P,
 ) -> Report<'a>
-    ensures told { report.IsTold (about question) contents result }
+    ensures told { told.IsTold (about question) contents result }
     ensures read { unread_by result ≡ None }
 {
     let BundleContents {
@@ -58,7 +58,7 @@ pub fn report_on_set<'a, T: Threads + Wait + Sync, P: Progress + Sync>(
 /// Whether rounds are asked for, and nested roots of profiles are all that keeps these from being a set.
 fn puts_apart(task: &Task, profiles: &[Profile], rules: &[Rule]) -> bool
     ensures { (S : Members) → S.profiles ≡ profiles.now → S.rules ≡ rules.now
-        → result ≡ report.puts_apart task.now S }
+        → result ≡ told.puts_apart task.now S }
 {
     match task {
         Task::Rounds => are_put_apart(profiles, rules),
@@ -75,7 +75,7 @@ fn report_on_made<'a, T: Threads + Wait + Sync, P: Progress + Sync>(
     own: &[Certificate],
     progress: &P,
 ) -> Report<'a>
-    ensures told { report.IsToldOfSet task set own.now result }
+    ensures told { told.IsToldOfSet task set own.now result }
     ensures read { unread_by result ≡ None }
 {
     match task {
@@ -105,9 +105,9 @@ fn or_refusal<'a>(
     answer: Result<Report<'a>, CheckFault>,
 ) -> Report<'a>
     ensures told { (t : Task) (cs : List Certificate)
-        → IfOk answer.entry (report.IsToldOfSet t set.now cs)
-        → IfErr answer.entry (report.FaultOf t set.now cs)
-        → report.IsToldOfSet t set.now cs result }
+        → IfOk answer.entry (told.IsToldOfSet t set.now cs)
+        → IfErr answer.entry (told.FaultOf t set.now cs)
+        → told.IsToldOfSet t set.now cs result }
     ensures read { IfOk answer.entry (λ r. unread_by r ≡ None) → unread_by result ≡ None }
 {
     match answer {
@@ -123,9 +123,9 @@ fn report_on_safety<'a, P: Progress>(
     progress: &P,
 ) -> Result<Report<'a>, CheckFault>
     ensures told { (cs : List Certificate) → IfOk result
-        (report.IsToldOfSet task.Check set.now cs) }
+        (told.IsToldOfSet task.Check set.now cs) }
     ensures refused { (cs : List Certificate) → IfErr result
-        (report.FaultOf task.Check set.now cs) }
+        (told.FaultOf task.Check set.now cs) }
     ensures read { IfOk result (λ r. unread_by r ≡ None) }
 {
     // The type of what the check returns says that the set is safe.
@@ -143,9 +143,9 @@ fn report_on_jobs<'a, T: Threads + Wait + Sync, P: Progress + Sync>(
     progress: &P,
 ) -> Result<Report<'a>, CheckFault>
     ensures told { (cs : List Certificate) → IfOk result
-        (report.IsToldOfSet (task.RunJobs workers state.now) set.now cs) }
+        (told.IsToldOfSet (task.RunJobs workers state.now) set.now cs) }
     ensures refused { (cs : List Certificate) → IfErr result
-        (report.FaultOf (task.RunJobs workers state.now) set.now cs) }
+        (told.FaultOf (task.RunJobs workers state.now) set.now cs) }
     ensures read { IfOk result (λ r. unread_by r ≡ None) }
 {
     let verified = check_with_progress(alloc, set, &Goals { progress })?;
@@ -155,9 +155,9 @@ fn report_on_jobs<'a, T: Threads + Wait + Sync, P: Progress + Sync>(
 /// The answer with certificates for its goals.
 fn report_with_certificates<'a>(alloc: Global, set: &ProfileSet) -> Result<Report<'a>, CheckFault>
     ensures told { (cs : List Certificate) → IfOk result
-        (report.IsToldOfSet task.Certify set.now cs) }
+        (told.IsToldOfSet task.Certify set.now cs) }
     ensures refused { (cs : List Certificate) → IfErr result
-        (report.FaultOf task.Certify set.now cs) }
+        (told.FaultOf task.Certify set.now cs) }
     ensures read { IfOk result (λ r. unread_by r ≡ None) }
 {
     let certificates = certificates(alloc, set)?;
@@ -171,8 +171,8 @@ fn report_on_certificates<'a>(
     set: &ProfileSet,
     own: &[Certificate],
 ) -> Result<Report<'a>, CheckFault>
-    ensures told { IfOk result (report.IsToldOfSet task.Verify set.now own.now) }
-    ensures refused { IfErr result (report.FaultOf task.Verify set.now own.now) }
+    ensures told { IfOk result (told.IsToldOfSet task.Verify set.now own.now) }
+    ensures refused { IfErr result (told.FaultOf task.Verify set.now own.now) }
     ensures read { IfOk result (λ r. unread_by r ≡ None) }
 {
     let _ = verify(alloc, set, own)?.set();

@@ -1,7 +1,7 @@
 -- What is answered over files.
-use Rattle.std.specs.Prelude.{◌≡◌, ◌⊎◌, ◌++◌, ℕ, Bool, false, true, List, [], ◌∷◌, Option, Some, None, Ok, Err, is_some, codes, map, string_bytes}
+use Rattle.std.specs.Prelude.{◌≡◌, ◌⊎◌, ◌++◌, ℕ, Bool, false, true, List, [], ◌∷◌, Option, Some, None, Ok, Err, is_some, codes, map, String, string_bytes}
 use Rattle.std.specs.List.{All, Contains, slice_get}
-use Rattle.hub_cli.specs.Words.{Names, Request}
+use Rattle.hub_cli.specs.Words.{Names, Request, asked_of}
 use Rattle.hub_bundle.specs.Files.{bundle_of, first_faulty, part_fault}
 use Rattle.hub_bundle.specs.declared.part.Kind.{Kind}
 use Rattle.hub_bundle.specs.declared.part.Kind.TheVariants.{Profile, Rules, State, Certificates}
@@ -21,6 +21,7 @@ use Rattle.hub_hosts.specs.declared.fault.HostsFault.{HostsFault}
 use Rattle.hub_hosts.specs.declared.fault.HostsFault.TheVariants as hosts_fault
 use Rattle.hub_include.specs.declared.fault.Why.{Why}
 use Rattle.hub_include.specs.declared.fault.Why.TheVariants as why
+use Rattle.hub_text.specs.declared.watched.Watched.{Watched}
 
 -- The line that says what is wrong with a file.
 abbrev pub file_fault_line : List ℕ → List ℕ → List ℕ
@@ -156,6 +157,10 @@ pub record Disk : Type 0 where
   pub reads : Reads
   pub lists : Lists
 
+-- What is known of a reader's files.
+abbrev pub disk_of : {F : Type 0} → (F → Reads) → (F → Lists) → F → Disk
+disk_of reads lists reader = record { reads = reads reader; lists = lists reader }
+
 -- The files that words name, and whether the profiles are read for Unison.
 pub record Sources : Type 0 where
   pub names : Names
@@ -232,3 +237,10 @@ pub record ServesNamed (disk : Disk) (asked : Option Request) (sources : Sources
     (old new : Option (List ℕ)) (failed : Bool) (status : ℕ) : Type 0 where
   pub served : is_some asked ≡ true → ServesFiles disk asked sources old new failed status
   pub nothing : asked ≡ None → AnswersNothing old new status
+
+-- The same for words, and a writer before and after, of which this tells the bytes.
+abbrev pub ServesFilesTo : {E Z : Type 0} → Watched E → Watched E → (E → Option (List ℕ)) → Disk
+    → List (String Z) → Sources → ℕ → Type 0
+ServesFilesTo output output_after contents disk words sources status =
+    ServesFiles disk (asked_of (map string_bytes words)) sources (contents output.device)
+    (contents output_after.device) output_after.failed status

@@ -1,9 +1,11 @@
 -- What the process does.
-use Rattle.std.specs.Prelude.{◌≡◌, ℕ, Bool, false, true, List, Option}
+use Rattle.std.specs.Prelude.{◌≡◌, ℕ, Bool, false, true, List, Option, String, map, string_bytes}
 use Rattle.hub_cli.specs.Words.{are_none, asked_of, files_of, is_strict_of, is_unison_of}
-use Rattle.hub_serve.specs.Reads.{Reads as InputReads}
-use Rattle.hubsync.specs.Bundled.{Disk, ServesInput, ServesNamed, Sources}
+use Rattle.hub_serve.specs.Reads.{Reads as InputReads, reads_between}
+use Rattle.hubsync.specs.Bundled.{Disk, ServesInput, ServesNamed, Sources, disk_of}
 use Rattle.hubsync.specs.Strict.{Strictly}
+use Rattle.hub_text.specs.declared.watched.Watched.{Watched}
+use Rattle.hub_folder.specs.Reading.{Lists, Reads}
 
 -- The files that words name, and whether they have `--unison`.
 abbrev pub sources_of : List (List ℕ) → Sources
@@ -19,3 +21,13 @@ pub record AnswersWords (disk : Disk) (words : List (List ℕ)) (remaining old n
   pub by_files : are_none (files_of words) ≡ false
       → Strictly (is_strict_of words)
       (ServesNamed disk (asked_of words) (sources_of words) old new failed) status
+
+-- The same of a reader of files, of an input and an output before and after, and of words. The first
+-- two functions tell the bytes of the input and of the output.
+abbrev pub AnswersOver : {D E F Z : Type 0} → Watched D → Watched D → Watched E → Watched E
+    → (D → Option (List ℕ)) → (E → Option (List ℕ)) → (F → Reads) → (F → Lists) → F
+    → List (String Z) → ℕ → Type 0
+AnswersOver input input_after output output_after remaining contents reads lists reader words status =
+    AnswersWords (disk_of reads lists reader) (map string_bytes words) (remaining input.device)
+    (contents output.device) (contents output_after.device) (reads_between input input_after)
+    output_after.failed status

@@ -1,10 +1,10 @@
 //! The files that the words on the command line name, and what they have.
-ghost use Rattle.std.specs.Prelude.{◌≡◌, ◌++◌, ℕ, List, false, map, option_map, string_bytes, IfErr, IfOk, OnOk};
+ghost use Rattle.std.specs.Prelude.{◌≡◌, ◌++◌, false, map, option_map, IfErr, IfOk, OnOk};
 ghost use Rattle.std.specs.List.{All};
-ghost use Rattle.hub_cli.specs.Words.{Names, asked_of, names_of};
+ghost use Rattle.hub_cli.specs.Words.{Names, names_of};
 ghost use Rattle.hub_bundle.specs.declared.part.Kind.TheVariants.{Profile};
 ghost use Rattle.hub_folder.specs.Told.{path_and_text};
-ghost use Rattle.hubsync.specs.Bundled.{AreRead, AreSections, AreTaken, HasContents, IsTable, ServesFiles, bytes_of, for_hosts, label_if, label_of, labels, option_labels};
+ghost use Rattle.hubsync.specs.Bundled.{AreRead, AreSections, AreTaken, HasContents, IsTable, bytes_of, for_hosts, label_if, label_of, labels, option_labels, ServesFilesTo, disk_of};
 ghost use Rattle.hubsync.specs.Named.{IsUnreadFile, IsUnreadOf, IsUnserved, bytes_held, label_held, label_named, sources_in, table_in};
 
 use crate::bundled::{serve_parts, write_memory};
@@ -85,10 +85,8 @@ pub fn serve_files<
     capture: &Capture,
 ) -> Answered
     requires { output.old.failed ≡ false }
-    ensures { ServesFiles (record { reads = F.reads reader.now; lists = F.lists reader.now })
-        (asked_of (map string_bytes words.now)) (sources_in options.now)
-        (W.contents output.old.device.device) (W.contents output.new.device.device)
-        output.new.failed result.status }
+    ensures { ServesFilesTo output.old output.new (λ d. W.contents d.device)
+        (disk_of F.reads F.lists reader.now) words.now (sources_in options.now) result.status }
 {
     match serve_named(rt, words, options, reader, output, capture) {
         Ok(answered) => answered,
@@ -121,14 +119,11 @@ fn serve_named<
     capture: &Capture,
 ) -> Result<Answered, Unserved<'a>>
     requires { output.old.failed ≡ false }
-    ensures served { IfOk result (λ a. ServesFiles
-        (record { reads = F.reads reader.now; lists = F.lists reader.now })
-        (asked_of (map string_bytes words.now)) (sources_in options.now)
-        (W.contents output.old.device.device) (W.contents output.new.device.device)
-        output.new.failed a.status) }
-    ensures named { IfErr result (IsUnserved
-        (record { reads = F.reads reader.now; lists = F.lists reader.now })
-        (names_of options.now.files)) }
+    ensures served { IfOk result (λ a. ServesFilesTo output.old output.new
+        (λ d. W.contents d.device) (disk_of F.reads F.lists reader.now) words.now
+        (sources_in options.now) a.status) }
+    ensures named { IfErr result
+        (IsUnserved (disk_of F.reads F.lists reader.now) (names_of options.now.files)) }
     ensures unread { IfErr result (λ _. output.new.failed ≡ false) }
     ensures silent { IfErr result (λ _. W.contents output.new.device.device
         ≡ W.contents output.old.device.device) }

@@ -16,11 +16,10 @@ mod served;
 mod terminal;
 mod untaken;
 
-ghost use Rattle.std.specs.Prelude.{◌≡◌, false, map, string_bytes, IfErr, IfOk};
+ghost use Rattle.std.specs.Prelude.{◌≡◌, false, IfErr, IfOk};
 ghost use Rattle.std.specs.Process.{exit_status};
-ghost use Rattle.hub_serve.specs.Reads.{reads_between};
 ghost use Rattle.hub_serve.specs.Serves.{AnswersNothing};
-ghost use Rattle.hubsync.specs.Process.{AnswersWords};
+ghost use Rattle.hubsync.specs.Process.{AnswersOver};
 ghost use Rattle.hubsync.specs.Strict.{strict_status_of};
 
 use crate::bundled::write_memory;
@@ -73,11 +72,9 @@ fn run<T: AllocGlobal + Clock + Eprint + Threads + Wait + Sync, F: FileReader, R
 ) -> ExitCode
     requires input { input.old.failed ≡ false }
     requires output { output.old.failed ≡ false }
-    ensures read { IfOk words (λ v. AnswersWords
-        (record { reads = F.reads reader.now; lists = F.lists reader.now }) (map string_bytes v.items)
-        (R.remaining input.old.device.device) (W.contents output.old.device.device)
-        (W.contents output.new.device.device)
-        (reads_between input.old input.new) output.new.failed (exit_status result)) }
+    ensures read { IfOk words (λ v. AnswersOver input.old input.new output.old output.new
+        (λ d. R.remaining d.device) (λ d. W.contents d.device) F.reads F.lists reader.now v.items
+        (exit_status result)) }
     ensures unread { IfErr words (λ _. AnswersNothing (W.contents output.old.device.device)
         (W.contents output.new.device.device) (exit_status result)) }
 {
@@ -114,11 +111,8 @@ fn answer<
 ) -> u8
     requires input { input.old.failed ≡ false }
     requires output { output.old.failed ≡ false }
-    ensures { AnswersWords
-        (record { reads = F.reads reader.now; lists = F.lists reader.now }) (map string_bytes words.now)
-        (R.remaining input.old.device.device) (W.contents output.old.device.device)
-        (W.contents output.new.device.device)
-        (reads_between input.old input.new) output.new.failed result }
+    ensures { AnswersOver input.old input.new output.old output.new (λ d. R.remaining d.device)
+        (λ d. W.contents d.device) F.reads F.lists reader.now words.now result }
 {
     match read_options(rt.alloc(), words) {
         Ok(options) => {

@@ -1,8 +1,7 @@
 //! An answer, and remarks on it.
 ghost use Rattle.std.specs.Prelude.{◌≡◌, false, map, string_bytes};
 ghost use Rattle.hub_cli.specs.Words.{asked_of};
-ghost use Rattle.hub_serve.specs.Reads.{reads_between};
-ghost use Rattle.hub_serve.specs.Serves.{ServesInFull};
+ghost use Rattle.hub_serve.specs.Serves.{ServesOver};
 
 use crate::captured::{Captured, Prefix};
 use crate::terminal::Terminal;
@@ -85,10 +84,8 @@ pub fn serve_with_remarks<
 ) -> Answered
     requires input { input.old.failed ≡ false }
     requires output { output.old.failed ≡ false }
-    ensures { ServesInFull (asked_of (map string_bytes words.now))
-        (R.remaining input.old.device.device) (W.contents output.old.device.device)
-        (W.contents output.new.device.device)
-        (reads_between input.old input.new) output.new.failed result.status }
+    ensures { ServesOver input.old input.new output.old output.new (λ d. R.remaining d.device)
+        (λ d. W.contents d.device) (asked_of (map string_bytes words.now)) result.status }
 {
     let progress = Terminal::new(rt, capture.by_terminal);
     let status = serve(rt, words, input, output, &progress);

@@ -1,7 +1,7 @@
 use Rattle.std.proofs.Common.{◌∙◌, subst}
 use Rattle.hub_cli.specs.Words.{about}
 use Rattle.hub_cli.specs.declared.words.Question.TheVariants as ask
-use Rattle.hub_serve.specs.Serves.{IsTold}
+use Rattle.hub_serve.specs.Told.{IsTold}
 use Rattle.hub_serve.proofs.MendAnswers.{check-refused}
 use Rattle.hub_serve.proofs.mend.report_on_said.Goals as goal
 

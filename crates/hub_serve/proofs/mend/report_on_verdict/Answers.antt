@@ -2,7 +2,7 @@ use Rattle.std.proofs.Common.{refl, sym, subst}
 use Rattle.hub_cli.specs.Words.{about, mended}
 use Rattle.hub_cli.specs.declared.words.Question.TheVariants as ask
 use Rattle.hub_report.specs.declared.report.Report.TheVariants as answer
-use Rattle.hub_serve.specs.Serves.{Holds, IsTold}
+use Rattle.hub_serve.specs.Told.{Holds, IsTold}
 use Rattle.hub_serve.proofs.MendAnswers.{check-safe}
 use Rattle.hub_serve.proofs.mend.report_on_verdict.Goals as goal
 use Rattle.hub_serve.proofs.mend.report_on_verdict.Goals.{in-Safe, in_default}

@@ -3,7 +3,7 @@ use Rattle.hub_path.specs.declared.fault.PathFault.TheVariants as path
 use Rattle.hub_profile.specs.Parts.{Parts}
 use Rattle.hub_cli.specs.Words.{reach}
 use Rattle.hub_serve.specs.Reached.{first_named}
-use Rattle.hub_serve.specs.Serves.{HasBadPath}
+use Rattle.hub_serve.specs.Told.{HasBadPath}
 use Rattle.hub_serve.proofs.Told.{path-told}
 use Rattle.hub_serve.proofs.reach.report_on_reach.Goals as goal
 

@@ -1,5 +1,5 @@
 use Rattle.std.proofs.Common.{IfErr, IfOk, subst}
-use Rattle.hub_serve.specs.Serves.{FaultOf, IsToldOfSet}
+use Rattle.hub_serve.specs.Told.{FaultOf, IsToldOfSet}
 use Rattle.hub_serve.proofs.Told.{refused-told}
 use Rattle.hub_serve.proofs.verdict.or_refusal.Goals as goal
 

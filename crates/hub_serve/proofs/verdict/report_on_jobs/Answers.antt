@@ -1,6 +1,6 @@
 use Rattle.std.proofs.Common.{subst}
 use Rattle.hub_serve.specs.declared.task.Task.TheVariants as task
-use Rattle.hub_serve.specs.Serves.{IsToldOfSet}
+use Rattle.hub_serve.specs.Told.{IsToldOfSet}
 use Rattle.hub_serve.proofs.verdict.report_on_jobs.Goals as goal
 
 pub returns-clause-told : goal.returns-clause-told

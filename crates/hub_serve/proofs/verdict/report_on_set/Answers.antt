@@ -2,7 +2,7 @@ use Rattle.std.proofs.Common.{◌∙◌, List, refl, subst, sym}
 use Rattle.hub_cert.specs.Set.{Members}
 use Rattle.hub_cert.specs.declared.certificate.Certificate.{Certificate}
 use Rattle.hub_bundle.specs.Sections.{members}
-use Rattle.hub_serve.specs.Serves.{IsToldOfSet}
+use Rattle.hub_serve.specs.Told.{IsToldOfSet}
 use Rattle.hub_serve.proofs.Told.{apart-told, lacks-state, refusal-told, set-told}
 use Rattle.hub_serve.proofs.verdict.report_on_set.Goals as goal
 

@@ -1,0 +1,193 @@
+-- What the first line of what is written shows of the input.
+use Rattle.std.specs.Prelude.{◌≡◌, ℕ, Bool, true, false, if◌then◌else◌, List, take, Option, Some, slice_get}
+use Rattle.hub_profile.specs.Parts.{Parts}
+use Rattle.hub_cert.specs.Set.{IsSafeSet}
+use Rattle.hub_cert.specs.Verdict.{AreInductive}
+use Rattle.hub_bundle.specs.declared.sections.BundleContents.{BundleContents}
+use Rattle.hub_bundle.specs.Sections.{Spells, members}
+use Rattle.hub_cli.specs.declared.words.Question.{Question}
+use Rattle.hub_cli.specs.declared.words.Question.TheVariants as ask
+use Rattle.hub_cli.specs.declared.words.Reading.{Reading}
+use Rattle.hub_cli.specs.declared.words.Reading.TheVariants as read
+use Rattle.hub_cli.specs.Words.{Request, reading_for, reading_of}
+use Rattle.hub_cli.specs.Words as question
+use Rattle.hub_serve.specs.declared.task.Task.{Task}
+use Rattle.hub_serve.specs.Mended.{Mends, mend_text}
+use Rattle.hub_mend.specs.Additions.{line_count, mended_text}
+use Rattle.hub_mend.specs.declared.piece.Piece.{Piece}
+use Rattle.hub_import.specs.Imported.{contents_of}
+use Rattle.hub_report.specs.RoundsRun.{rounds_run_text}
+use Rattle.hub_report.specs.declared.rounds_run.RoundsRun.{RoundsRun}
+use Rattle.hub_state.specs.State.{State}
+use Rattle.hub_serve.specs.ByRounds.{HasRunByRounds}
+use Rattle.hub_serve.specs.Rounds.{DrawsClashes, ListsClashes, WritesRounds}
+use Rattle.hub_serve.specs.Runs.{IsBelow}
+use Rattle.hub_serve.specs.Unison.{SpellsAs, SpellsRoundInUnison, SpellsSafeInUnison, SpellsUnreachedInUnison}
+use Rattle.hub_serve.specs.Task.{task_of}
+use Rattle.hub_serve.specs.Told.{ReachIs, SaysOf}
+
+-- A text is the whole of what is to be told, with the status of that, unless a call of the output
+-- failed: then it is a prefix, and the status is 2.
+pub record IsWholeUnlessFailed (full : List ℕ) (full_status : ℕ) (failed : Bool)
+    (text : List ℕ) (status : ℕ) : Type 0 where
+  pub written : ℕ
+  pub text_is : text ≡ take written full
+  pub whole : failed ≡ false → text ≡ full
+  pub status_is : status ≡ (if failed then 2 else full_status)
+
+-- This holds of a full text and its status, and the text is the whole of it, with that status,
+-- unless a call of the output failed.
+pub record TellsUnlessFailed (IsSo : List ℕ → ℕ → Type 0) (text : List ℕ) (failed : Bool)
+    (status : ℕ) : Type 0 where
+  pub full : List ℕ
+  pub full_status : ℕ
+  pub is_so : IsSo full full_status
+  pub told : IsWholeUnlessFailed full full_status failed text status
+
+-- The bytes are a bundle whose profiles, as the words want them to be read, and rules are a safe
+-- set, and this text is what is to follow `safe`, with this status.
+pub record FollowsSafe (asked : Option Request) (bytes text : List ℕ) (status : ℕ) : Type 0 where
+  pub of_set : Question
+  pub is_asked : asked ≡ Some (question.about of_set)
+  pub contents : BundleContents
+  pub spelled : SpellsAs (reading_of of_set) bytes contents
+  pub to_do : Task
+  pub to_do_is : task_of of_set contents.state ≡ Some to_do
+  pub safe : IsSafeSet (members contents)
+  pub in_unison : reading_of of_set ≡ read.Unison → SpellsSafeInUnison bytes
+  pub below : IsBelow to_do (members contents) status text
+
+-- The same of what is written of that text; and so of each text below.
+abbrev pub TellsSafe : Option Request → List ℕ → List ℕ → Bool → ℕ → Type 0
+TellsSafe asked bytes = TellsUnlessFailed (FollowsSafe asked bytes)
+
+-- Whether `safe` may be an answer to a question.
+abbrev pub may_be_safe : Question → Bool
+may_be_safe ask.CheckWithState = true
+may_be_safe (ask.Run n) = true
+may_be_safe (ask.Check reading) = true
+may_be_safe (ask.Clashes reading) = true
+may_be_safe _ = false
+
+-- `safe` may be the answer, and the bytes are a bundle whose profiles, as the words want them to be
+-- read, and rules are a safe set.
+pub record SpellsSafe (asked : Option Request) (bytes : List ℕ) : Type 0 where
+  pub of_set : Question
+  pub is_asked : asked ≡ Some (question.about of_set)
+  pub may_be : may_be_safe of_set ≡ true
+  pub contents : BundleContents
+  pub spelled : SpellsAs (reading_of of_set) bytes contents
+  pub safe : IsSafeSet (members contents)
+  pub in_unison : reading_of of_set ≡ read.Unison → SpellsSafeInUnison bytes
+
+-- The bytes are a bundle whose profiles, as the words want them to be read, and rules aren't.
+pub record SpellsUnsafe (asked : Option Request) (bytes : List ℕ) : Type 0 where
+  pub request : Request
+  pub is_asked : asked ≡ Some request
+  pub contents : BundleContents
+  pub spelled : SpellsAs (reading_for request) bytes contents
+  pub unsafe : IsSafeSet (members contents) → ⊥
+
+-- The words ask to verify the bundle's certificates, and these make its set safe.
+pub record SpellsVerified (asked : Option Request) (bytes : List ℕ) : Type 0 where
+  pub is_asked : asked ≡ Some (question.about ask.Verify)
+  pub contents : BundleContents
+  pub spelled : Spells bytes contents
+  pub inductive : AreInductive (members contents) contents.certificates
+  pub safe : IsSafeSet (members contents)
+
+-- The bytes are a bundle of whose set, if its profiles are read so, this text lists what clashes,
+-- with status 1.
+pub record ShowsClashes (reading : Reading) (bytes text : List ℕ) (status : ℕ) : Type 0 where
+  pub contents : BundleContents
+  pub spelled : SpellsAs reading bytes contents
+  pub listed : ListsClashes (members contents) text
+  pub status_is : status ≡ 1
+
+abbrev pub SpellsClashes : Reading → List ℕ → List ℕ → Bool → ℕ → Type 0
+SpellsClashes reading bytes = TellsUnlessFailed (ShowsClashes reading bytes)
+
+-- The words ask for rounds, and the bytes are a bundle whose set is cut so. All is well if each
+-- profile is in a round and no goal was too large: then the status is 0, else 1.
+pub record ShowsRounds (asked : Option Request) (bytes text : List ℕ) (status : ℕ) : Type 0 where
+  pub reading : Reading
+  pub is_asked : asked ≡ Some (question.about (ask.Rounds reading))
+  pub contents : BundleContents
+  pub spelled : SpellsAs reading bytes contents
+  pub well : Bool
+  pub cut : WritesRounds (members contents) text well
+  pub in_unison : reading ≡ read.Unison → (k : ℕ) (round : List Parts)
+      → slice_get cut.rounds.rounds k ≡ Some round → SpellsRoundInUnison bytes round
+  pub status_is : status ≡ (if well then 0 else 1)
+
+abbrev pub SpellsRounds : Option Request → List ℕ → List ℕ → Bool → ℕ → Type 0
+SpellsRounds asked bytes = TellsUnlessFailed (ShowsRounds asked bytes)
+
+-- They ask for a graph of what clashes, and its set is drawn so. The status is 0 if it is safe, else
+-- 1.
+pub record ShowsGraph (asked : Option Request) (bytes text : List ℕ) (status : ℕ) : Type 0 where
+  pub reading : Reading
+  pub is_asked : asked ≡ Some (question.about (ask.Graph reading))
+  pub contents : BundleContents
+  pub spelled : SpellsAs reading bytes contents
+  pub well : Bool
+  pub drawn : DrawsClashes (members contents) text well
+  pub in_unison : reading ≡ read.Unison → well ≡ true → SpellsSafeInUnison bytes
+  pub status_is : status ≡ (if well then 0 else 1)
+
+abbrev pub SpellsGraph : Option Request → List ℕ → List ℕ → Bool → ℕ → Type 0
+SpellsGraph asked bytes = TellsUnlessFailed (ShowsGraph asked bytes)
+
+-- The words ask for a run by rounds, and the bytes are a bundle whose state the rounds of its set
+-- were run on, and this text is to say what they did and left. The status is 0 if each round was
+-- run and each job is finished, else 3.
+pub record ShowsRoundsRun (asked : Option Request) (bytes text : List ℕ) (status : ℕ) : Type 0 where
+  pub workers : ℕ
+  pub is_asked : asked ≡ Some (question.about (ask.RunByRounds workers))
+  pub contents : BundleContents
+  pub spelled : Spells bytes contents
+  pub state : State
+  pub state_is : contents.state ≡ Some state
+  pub run : RoundsRun
+  pub was_run : HasRunByRounds (members contents) workers state run
+  pub text_is : text ≡ rounds_run_text run
+  pub status_is : status ≡ (if run.finished then 0 else 3)
+
+abbrev pub SpellsRoundsRun : Option Request → List ℕ → List ℕ → Bool → ℕ → Type 0
+SpellsRoundsRun asked bytes = TellsUnlessFailed (ShowsRoundsRun asked bytes)
+
+-- The text is a bundle. Read plainly, it says the readings for Unison of the profiles that the
+-- bytes spell, and their rules, and neither a state nor certificates. If these are a safe set, then
+-- by the lines of the bytes that count no two of the own profiles clash in Unison, and Unison breaks
+-- none of the rules.
+pub record ShowsImport (bytes text : List ℕ) : Type 0 where
+  pub contents : BundleContents
+  pub spelled : SpellsAs read.Unison bytes contents
+  pub written : Spells text (contents_of contents.profiles contents.rules)
+  pub in_unison : IsSafeSet (members contents) → SpellsSafeInUnison bytes
+
+-- The words ask whether a profile reaches a path, and this is what a profile that the bytes spell
+-- answers.
+pub record SpellsReach (asked : Option Request) (bytes : List ℕ) (answer : Bool) : Type 0 where
+  pub request : Request
+  pub is_asked : asked ≡ Some request
+  pub contents : BundleContents
+  pub spelled : SpellsAs (reading_for request) bytes contents
+  pub answered : ReachIs request contents.profiles answer
+  pub in_unison : reading_for request ≡ read.Unison → answer ≡ false
+      → SpellsUnreachedInUnison bytes answered.profile answered.p
+
+-- A text has lines that only take away, and what is said of the bundle with them, or it is that
+-- bundle. The status is 0 only if its set is safe. If that is for Unison, no two of its own profiles
+-- clash in Unison, and Unison breaks none of its rules.
+pub record ShowsMend (reading : Reading) (as_bundle : Bool) (bytes text : List ℕ)
+    (status : ℕ) : Type 0 where
+  pub pieces : List Piece
+  pub new : BundleContents
+  pub mends : Mends reading bytes pieces new
+  pub safe : Bool
+  pub line : List ℕ
+  pub said : SaysOf safe new (line_count pieces) line
+  pub text_is : text ≡ mend_text as_bundle pieces line
+  pub status_is : status ≡ (if safe then 0 else 1)
+  pub in_unison : reading ≡ read.Unison → safe ≡ true → SpellsSafeInUnison (mended_text pieces)

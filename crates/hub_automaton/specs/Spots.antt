@@ -1,6 +1,6 @@
 -- The state after a text for some specifications: which numbers of pieces of their choices match
 -- it, and which of the specifications match a path above it.
-use Rattle.std.specs.Prelude.{◌||◌, ◌≡◌, ◌⊎◌, ◌<◌, ◌≤◌, IsTrue, drop, ℕ, Bool, true, false, ◌&&◌, ◌==◌, ◌+◌, List, [], ◌∷◌, ◌++◌, map, length, take, if◌then◌else◌}
+use Rattle.std.specs.Prelude.{◌||◌, ◌≡◌, ◌⊎◌, ◌<◌, ◌≤◌, ◌-◌, Some, IsTrue, drop, ℕ, Bool, true, false, ◌&&◌, ◌==◌, ◌+◌, List, [], ◌∷◌, ◌++◌, map, length, take, if◌then◌else◌}
 use Rattle.std.specs.List.{list_any, list_all, flat_map, range_with_len}
 use Rattle.hub_glob.specs.declared.piece.Piece.{Piece}
 use Rattle.hub_glob.specs.declared.piece.Piece.TheVariants.{Lit}
@@ -8,7 +8,8 @@ use Rattle.hub_glob.specs.declared.path_spec.Kind.{Kind}
 use Rattle.hub_glob.specs.declared.path_spec.Kind.TheVariants as kind
 use Rattle.hub_glob.specs.Specification.{Specification}
 use Rattle.hub_glob.specs.Glob.{pieces, no_more, choices}
-use Rattle.hub_automaton.specs.Alphabet.{mentions, pieces_characters, first_unmentioned, IsAlphabet}
+use Rattle.hub_path.specs.Path.{Path, is_path, text_of}
+use Rattle.hub_automaton.specs.Alphabet.{class_of, mentions, pieces_characters, first_unmentioned, IsAlphabet}
 use Rattle.hub_automaton.specs.Words.{packed}
 use Rattle.hub_automaton.specs.declared.fault.AutomatonFault.{AutomatonFault}
 use Rattle.hub_automaton.specs.declared.fault.AutomatonFault.TheVariants.{TooManySpots, OutOfMemory}
@@ -130,6 +131,9 @@ RefusesSpots ls e = (e ≡ OutOfMemory) ⊎ ((e ≡ TooManySpots) × (SPOTS < sp
 abbrev pub is_covered : List ℕ → Alternatives → Bool
 is_covered ms a = list_all (λ c. mentions ms (pieces_characters c)) a.choices
 
+abbrev pub AreCovered : List ℕ → List Alternatives → Type 0
+AreCovered ms ls = IsTrue (list_all (is_covered ms) ls)
+
 -- What is followed through a text: choices, and the mentioned characters of the alphabet.
 pub record Tracked : Type 0 where
   pub mentioned : List ℕ
@@ -143,3 +147,29 @@ pub record IsTracked (characters : List ℕ) (ls : List Alternatives) (count : �
   pub covered : IsTrue (list_all (is_covered (drop 1 characters)) ls)
   pub counted : count ≡ spots_count ls
   pub few : count ≤ SPOTS
+
+-- One of the choices from one number on, up to and without another one, matches the text.
+abbrev pub some_match : List Alternatives → List ℕ → ℕ → ℕ → Bool
+some_match ls t from to = list_any (λ a. is_matched a t) (take (to - from) (drop from ls))
+
+-- It holds of the state after one more character of that class.
+abbrev pub AfterCharacter : Tracked → PackedState → ℕ → (PackedState → Type 0) → Type 0
+AfterCharacter s at class C =
+    (t : List ℕ) (x : ℕ) → at ≡ state_after s.alternatives t → class_of s.mentioned x ≡ Some class
+    → C (state_after s.alternatives (t ++ x ∷ []))
+
+-- It holds of the specifications whose choices are followed, and of a path that leads to the state.
+abbrev pub AtPath : Tracked → PackedState → (List Specification → Path → Type 0) → Type 0
+AtPath s at C =
+    (specs : List Specification) (p : Path) → s.alternatives ≡ map alternatives_of specs
+    → IsTrue (is_path p) → at ≡ state_after s.alternatives (text_of p) → C specs p
+
+-- Two characters lead from a text to the same state.
+abbrev pub LeadToOneState : List Alternatives → List ℕ → ℕ → ℕ → Type 0
+LeadToOneState ls t x y = state_after ls (t ++ x ∷ []) ≡ state_after ls (t ++ y ∷ [])
+
+-- The texts of two paths lead to the same state of these specifications.
+abbrev pub HaveOneState : List Specification → Path → Path → Type 0
+HaveOneState specs p q =
+    state_after (map alternatives_of specs) (text_of p)
+    ≡ state_after (map alternatives_of specs) (text_of q)

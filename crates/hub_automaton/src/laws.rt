@@ -1,11 +1,11 @@
 //! Laws of alphabets and of the states that texts lead to: each is the contract of an empty function.
 ghost use Rattle.std.specs.Prelude.{◌≡◌, ◌↔◌, ◌<◌, ◌+◌, ◌++◌, ◌∷◌, ◌==◌, ◌||◌, ◌&&◌, not, [], length, map, ℕ, List, Some, IsTrue, true, false};
-ghost use Rattle.std.specs.List.{list_all, list_any};
+ghost use Rattle.std.specs.List.{list_all};
 ghost use Rattle.std.specs.declared.cmp.Ordering.TheVariants.{Equal};
 ghost use Rattle.hub_path.specs.Path.{Path, text_of, path_of, name_eq, path_eq, is_path};
-ghost use Rattle.hub_glob.specs.Glob.{matches};
+ghost use Rattle.hub_glob.specs.Glob.{matches, any_matches};
 ghost use Rattle.hub_glob.specs.Specification.{Specification};
-ghost use Rattle.hub_automaton.specs.Spots.{PackedState, state_after, alternatives_of, path_alternatives, is_covered, is_matched, spec_state, spots_count, starts};
+ghost use Rattle.hub_automaton.specs.Spots.{PackedState, state_after, alternatives_of, path_alternatives, is_covered, is_matched, spec_state, spots_count, starts, HaveOneState, LeadToOneState, AreCovered};
 ghost use Rattle.hub_automaton.specs.declared.alternatives.Alternatives.{Alternatives};
 ghost use Rattle.hub_automaton.specs.Alphabet.{IsAlphabet, class_of, class_count, sample, with_characters, mentions, path_characters, spec_characters, is_never_mentioned, is_mentioned, is_path_character};
 
@@ -73,9 +73,8 @@ pub fn what_is_kept_goes_on_alike()
         → state_after ls t ≡ state_after ls u
         → state_after ls (t ++ x ∷ []) ≡ state_after ls (u ++ x ∷ []) }
     ensures classes { (ms : List ℕ) (ls : List Alternatives) (t : List ℕ) (x y k : ℕ)
-        → IsAlphabet ms → IsTrue (list_all (is_covered ms) ls)
-        → class_of ms x ≡ Some k → class_of ms y ≡ Some k
-        → state_after ls (t ++ x ∷ []) ≡ state_after ls (t ++ y ∷ []) }
+        → IsAlphabet ms → AreCovered ms ls
+        → class_of ms x ≡ Some k → class_of ms y ≡ Some k → LeadToOneState ls t x y }
 {}
 
 /// Two texts lead to the same state exactly when the following agree: for each specification, how many pieces of each
@@ -88,9 +87,7 @@ pub fn the_same_is_kept_of_each_specification()
 /// If two paths lead to the same state, the same specifications match them.
 pub fn what_is_kept_tells_what_matches()
     ensures { (specs : List Specification) (p q : Path) → IsTrue (is_path p) → IsTrue (is_path q)
-        → state_after (map alternatives_of specs) (text_of p)
-        ≡ state_after (map alternatives_of specs) (text_of q)
-        → list_any (λ s. matches s p) specs ≡ list_any (λ s. matches s q) specs }
+        → HaveOneState specs p q → any_matches specs p ≡ any_matches specs q }
 {}
 
 /// All states of one set have equally many words.
@@ -109,7 +106,7 @@ pub fn what_is_kept_tells_each_match()
 pub fn choices_mention_what_their_specification_does()
     ensures { (ms : List ℕ) (specs : List Specification)
         → IsTrue (list_all (λ s. mentions ms (spec_characters s)) specs)
-        → IsTrue (list_all (is_covered ms) (map alternatives_of specs)) }
+        → AreCovered ms (map alternatives_of specs) }
 {}
 
 /// The choices of a specification match the text of a path exactly when the specification matches the path.

@@ -21,6 +21,15 @@ pub record HaveSameName (Ps : List Parts) (i j : ℕ) : Type 0 where
   pub at_second : slice_get Ps j ≡ Some second
   pub same : first.name ≡ second.name
 
+-- No two profiles have the same name; or that one is the first that has the name of an earlier one.
+abbrev pub NoNamesakes : List Parts → Type 0
+NoNamesakes Ps = (i j : ℕ) → i < j → HaveSameName Ps i j → ⊥
+
+abbrev pub IsFirstNamesake : List Parts → ℕ → Type 0
+IsFirstNamesake Ps later =
+    ((i : ℕ) × (i < later) × HaveSameName Ps i later)
+    × ((i j : ℕ) → i < j → j < later → HaveSameName Ps i j → ⊥)
+
 -- The name of the first profile that has the name of an earlier one.
 pub record IsFirstRepeated (Ps : List Parts) (name : Name) : Type 0 where
   pub earlier : ℕ
@@ -47,6 +56,14 @@ pub record AreFirstNested (rs : List Path) (i j : ℕ) : Type 0 where
   pub before : i < j
   pub nested : AreNested rs i j
   pub none_before : (m n : ℕ) → m < n → (m < i) ⊎ ((m ≡ i) × (n < j)) → AreNested rs m n → ⊥
+
+-- No root after that one is nested with it; or the other one is the first that is.
+abbrev pub NoneNestedAfter : List Path → ℕ → Type 0
+NoneNestedAfter rs i = (n : ℕ) → i < n → AreNested rs i n → ⊥
+
+abbrev pub IsFirstNestedAfter : List Path → ℕ → ℕ → Type 0
+IsFirstNestedAfter rs i j =
+    (i < j) × AreNested rs i j × ((n : ℕ) → i < n → n < j → AreNested rs i n → ⊥)
 
 pub record AreShownNested (rs : List Path) (r s : Path) : Type 0 where
   pub earlier : ℕ

@@ -1,7 +1,6 @@
 //! The profile in a file.
-ghost use Rattle.std.specs.Prelude.{◌≡◌, ◌⊎◌, ◌++◌, Err, string_bytes, IfErr, IfOk};
-ghost use Rattle.hub_include.specs.declared.fault.LinesFault.TheVariants as lines_fault;
-ghost use Rattle.hub_include.specs.Includes.{lines_of};
+ghost use Rattle.std.specs.Prelude.{◌≡◌, ◌++◌, Err, string_bytes, IfErr, IfOk};
+ghost use Rattle.hub_include.specs.Includes.{lines_of, IsFault};
 ghost use Rattle.hub_folder.specs.Taken.{Agrees, IsCut, IsProfile, IsText, IsUntaken, IsUntakenFile};
 ghost use Rattle.hub_include.specs.Files.{Known, known_of};
 
@@ -74,7 +73,7 @@ impl<'a, F: FileReader> Place<'a, F> {
     /// Why the lines of a file can't be told.
     pub(crate) fn untaken(&self, name: &str, fault: LinesFault) -> Untaken
         ensures { (known : Known) → Agrees (F.reads self.now.reader.now) self.now.path.now known
-            → (fault ≡ lines_fault.OutOfMemory) ⊎ (lines_of known name.now ≡ Err fault)
+            → IsFault (lines_of known name.now) fault
             → IsUntaken (F.reads self.now.reader.now) self.now.path.now result }
     {
         match fault {

@@ -68,3 +68,7 @@ by_kind kind.BelowPath pattern p = list_any (λ q. glob pattern true (text_of q)
 -- over it. Nothing matches the empty path.
 unfoldable pub matches : Specification → Path → Bool
 matches s p = not (length p == 0) && by_kind s.kind s.pattern p
+
+-- One of the specifications matches the path.
+abbrev pub any_matches : List Specification → Path → Bool
+any_matches ss p = list_any (λ s. matches s p) ss

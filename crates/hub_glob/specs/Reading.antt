@@ -6,6 +6,7 @@ use Rattle.hub_glob.specs.declared.piece.Piece.TheVariants.{Lit, Any, Run, OneOf
 use Rattle.hub_glob.specs.declared.piece.Part.{Part}
 use Rattle.hub_glob.specs.declared.piece.Part.TheVariants.{One, Brace}
 use Rattle.hub_glob.specs.declared.piece.TheConstants.{PATTERN_CHARACTERS, PATTERN_CHOICES}
+use Rattle.hub_glob.specs.declared.reading.Parser.{Parser}
 use Rattle.hub_glob.specs.declared.reading.Token.{Token}
 use Rattle.hub_glob.specs.declared.reading.Token.TheVariants.{Plain, Escaped, Stray}
 use Rattle.hub_glob.specs.declared.reading.Sign.{Sign}
@@ -122,6 +123,21 @@ signs in_name (Some set) (t ∷ ts) =
     if is_plain 93 t then set_sign set true ∷ signs in_name None ts
     else signs in_name (Some (set ++ t ∷ [])) ts
 
+-- The signs of the tokens that a parser has left, outside brackets or from after a `[`.
+abbrev pub signs_of : Parser → List (Result Sign GlobFault)
+signs_of p = signs p.in_name None p.tokens.now
+
+abbrev pub set_signs_of : Parser → List (Result Sign GlobFault)
+set_signs_of p = signs p.in_name (Some []) p.tokens.now
+
+-- From after a `[`, no `]` closes the set; or the tokens are a set, a `]` and the rest.
+abbrev pub IsUnclosed : Bool → List Token → Type 0
+IsUnclosed in_name ts = signs in_name (Some []) ts ≡ set_sign ts false ∷ []
+
+abbrev pub IsSplit : Bool → List Token → List Token → List Token → Type 0
+IsSplit in_name ts set rest =
+    signs in_name (Some []) ts ≡ set_sign set true ∷ signs in_name None rest
+
 -- The first sign is that fault.
 abbrev pub BeginsWithFault : GlobFault → List (Result Sign GlobFault) → Type 0
 BeginsWithFault e ss = (rest : List (Result Sign GlobFault)) × (ss ≡ Err e ∷ rest)
@@ -148,6 +164,11 @@ parts (Some (done, current)) (Ok Open ∷ ss) = Err fault.NestedBraces
 parts (Some (done, current)) (Ok Comma ∷ ss) = parts (Some (done ++ current ∷ [], [])) ss
 parts (Some (done, current)) (Ok Close ∷ ss) =
     then_part (Brace (done ++ current ∷ [])) (parts None ss)
+
+-- From after a `{`, the signs are those of a brace with these choices, and of what comes after it.
+abbrev pub AreBrace : List (Result Sign GlobFault) → List (Result Sign GlobFault)
+    → List (List Piece) → Type 0
+AreBrace before after cs = parts (Some ([], [])) before ≡ then_part (brace cs) (parts None after)
 
 abbrev pub few_choices : List Part → Result (List Part) GlobFault
 few_choices ps =

@@ -1,5 +1,5 @@
 //! Reading path specifications.
-ghost use Rattle.std.specs.Prelude.{◌≡◌, ◌==◌, ◌⊎◌, ◌+◌, ◌-◌, ◌<◌, ◌≤◌, ◌∷◌, ◌++◌, [], length, nat_lt, nat_le, Bool, true, false, List, Option, Some, None, Result, Ok, Err, IfOk, IfErr, IfSome, IsSome, MatchOption, chars};
+ghost use Rattle.std.specs.Prelude.{◌≡◌, ◌==◌, ◌⊎◌, ◌+◌, ◌-◌, ◌<◌, ◌≤◌, ◌∷◌, ◌++◌, [], length, nat_lt, Bool, true, false, Option, Some, None, Result, Ok, Err, IfOk, IfErr, IfSome, IsSome, MatchOption, chars};
 ghost use Rattle.std.specs.List.{before_first, after_first, range_with_len};
 ghost use Rattle.hub_text.specs.Fails.{Fails};
 ghost use Rattle.hub_glob.specs.declared.fault.GlobFault.{GlobFault};
@@ -166,11 +166,9 @@ struct Parser<'a> {
 impl Parser<'_> {
     /// The parts up to the end.
     fn parts(&mut self) -> Result<Items<Part>, GlobFault>
-        ensures ok { IfOk result (λ ps.
-            reading.parts None (reading.signs self.old.in_name None self.old.tokens.now) ≡ Ok ps) }
+        ensures ok { IfOk result (λ ps. reading.parts None (reading.signs_of self.old) ≡ Ok ps) }
         ensures err { IfErr result (λ e. (e ≡ GlobFault.OutOfMemory)
-            ⊎ (reading.parts None (reading.signs self.old.in_name None self.old.tokens.now)
-            ≡ Err e)) }
+            ⊎ (reading.parts None (reading.signs_of self.old) ≡ Err e)) }
     {
         let mut parts = Items::new(self.alloc);
         'signs: while let Some(sign) = self.sign()? {
@@ -188,12 +186,9 @@ impl Parser<'_> {
     /// The choices of a brace, from after its `{` to its `}`.
     fn choices(&mut self) -> Result<Items<Items<Piece>>, GlobFault>
         ensures ok { IfOk result (λ cs.
-            reading.parts (Some ([], [])) (reading.signs self.old.in_name None self.old.tokens.now)
-            ≡ reading.then_part (reading.brace cs)
-            (reading.parts None (reading.signs self.new.in_name None self.new.tokens.now))) }
+            reading.AreBrace (reading.signs_of self.old) (reading.signs_of self.new) cs) }
         ensures err { IfErr result (λ e. (e ≡ GlobFault.OutOfMemory)
-            ⊎ (reading.parts (Some ([], []))
-            (reading.signs self.old.in_name None self.old.tokens.now) ≡ Err e)) }
+            ⊎ (reading.parts (Some ([], [])) (reading.signs_of self.old) ≡ Err e)) }
         ensures in_name { self.new.in_name ≡ self.old.in_name }
         ensures shorter { length self.new.tokens.now ≤ length self.old.tokens.now }
     {
@@ -216,10 +211,9 @@ impl Parser<'_> {
     /// The next sign, or nothing at the end.
     fn sign(&mut self) -> Result<Option<Sign>, GlobFault>
         ensures ok { IfOk result (λ o. MatchOption o (self.old.tokens.now ≡ [])
-            (λ s. reading.signs self.old.in_name None self.old.tokens.now
-            ≡ Ok s ∷ reading.signs self.new.in_name None self.new.tokens.now)) }
+            (λ s. reading.signs_of self.old ≡ Ok s ∷ reading.signs_of self.new)) }
         ensures err { IfErr result (λ e. (e ≡ GlobFault.OutOfMemory)
-            ⊎ reading.BeginsWithFault e (reading.signs self.old.in_name None self.old.tokens.now)) }
+            ⊎ reading.BeginsWithFault e (reading.signs_of self.old)) }
         ensures in_name { self.new.in_name ≡ self.old.in_name }
         ensures shorter { IfOk result (λ o. IsSome o
             → length self.new.tokens.now < length self.old.tokens.now) }
@@ -247,10 +241,10 @@ impl Parser<'_> {
 
     /// A set, from after its `[`.
     fn set(&mut self) -> Result<Piece, GlobFault>
-        ensures ok { IfOk result (λ p. reading.signs self.old.in_name (Some []) self.old.tokens.now
-            ≡ Ok (SignValue.Means p) ∷ reading.signs self.new.in_name None self.new.tokens.now) }
+        ensures ok { IfOk result (λ p. reading.set_signs_of self.old
+            ≡ Ok (SignValue.Means p) ∷ reading.signs_of self.new) }
         ensures err { IfErr result (λ e. (e ≡ GlobFault.OutOfMemory)
-            ⊎ reading.BeginsWithFault e (reading.signs self.old.in_name (Some []) self.old.tokens.now)) }
+            ⊎ reading.BeginsWithFault e (reading.set_signs_of self.old)) }
         ensures in_name { self.new.in_name ≡ self.old.in_name }
         ensures shorter { length self.new.tokens.now ≤ length self.old.tokens.now }
     {
@@ -284,10 +278,8 @@ fn sign_of(c: char) -> Sign
 
 /// The tokens of a set and those after its `]`, if there is one.
 fn split_set(tokens: &[Token]) -> Option<(&[Token], &[Token])>
-    ensures split { (in_name : Bool) → MatchOption result
-        (reading.signs in_name (Some []) tokens.now ≡ reading.set_sign tokens.now false ∷ [])
-        (λ x. reading.signs in_name (Some []) tokens.now
-        ≡ reading.set_sign x.0.now true ∷ reading.signs in_name None x.1.now) }
+    ensures split { (in_name : Bool) → MatchOption result (reading.IsUnclosed in_name tokens.now)
+        (λ x. reading.IsSplit in_name tokens.now x.0.now x.1.now) }
     ensures shorter { IfSome result (λ x. length x.1.now ≤ length tokens.now) }
 {
     for (i, token) in tokens.iter().enumerate() {

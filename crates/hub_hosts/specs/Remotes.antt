@@ -1,9 +1,9 @@
 -- Roots on other machines, and the paths that stand for them.
-use Rattle.std.specs.Prelude.{ℕ, ◌==◌, ◌-◌, Bool, not, nat_eq, List, ◌++◌, length, take, drop, Option, Some, None, codes, if◌then◌else◌}
+use Rattle.std.specs.Prelude.{◌≡◌, false, ℕ, ◌==◌, ◌-◌, Bool, not, nat_eq, List, ◌++◌, length, take, drop, Option, Some, None, codes, if◌then◌else◌}
 use Rattle.std.specs.List.{ends_with, find}
 use Rattle.std.specs.Option.{option_map, option_or}
 use denote.Ref.{Bor}
-use Rattle.hub_hosts.specs.Table.{Row, is_for, slash}
+use Rattle.hub_hosts.specs.Table.{Row, has_row, is_for, slash}
 use Rattle.hub_hosts.specs.Words.{before, begins_with, from_first, host_in, skip, skip_end}
 use Rattle.hub_hosts.specs.declared.remote.Local.{Local}
 use Rattle.hub_hosts.specs.declared.remote.Remote.{Remote}
@@ -73,3 +73,9 @@ of_remote r = record { name = r.name.now; is_in_home = r.is_in_home; below = r.b
 
 abbrev pub of_local : Local (Bor (List ℕ)) → Local (List ℕ)
 of_local l = record { base = l.base.now; below = l.below.now }
+
+-- If the table has neither the remote's name nor its host, it holds.
+abbrev pub IfUnknown : List Row → Remote (List ℕ) → Type 0 → Type 0
+IfUnknown rows r C =
+    has_row rows r.name r.is_in_home ≡ false → has_row rows (host_in r.name) r.is_in_home ≡ false
+    → C

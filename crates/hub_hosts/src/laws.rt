@@ -4,9 +4,9 @@ ghost use Rattle.std.specs.List.{list_any};
 ghost use Rattle.hub_text.specs.Lines.{lines_of};
 ghost use Rattle.hub_hosts.specs.Profiles as profiles;
 ghost use Rattle.hub_hosts.specs.Profiles.{from_root, line_for, root_in, sets_arrow, sets_root, text_for};
-ghost use Rattle.hub_hosts.specs.Remotes.{path_of, remote_of};
-ghost use Rattle.hub_hosts.specs.Table.{Row, has_row, rows_of, slash};
-ghost use Rattle.hub_hosts.specs.Words.{begins_with, host_in};
+ghost use Rattle.hub_hosts.specs.Remotes.{path_of, remote_of, IfUnknown};
+ghost use Rattle.hub_hosts.specs.Table.{Row, rows_of, slash};
+ghost use Rattle.hub_hosts.specs.Words.{begins_with};
 ghost use Rattle.hub_hosts.specs.declared.remote.Remote.{Remote};
 
 /// A text that names no root on another machine stays as it is.
@@ -26,8 +26,7 @@ pub fn a_line_of_another_name_stays()
 pub fn a_root_of_an_unknown_host_stays()
     ensures { (rows : List Row) (line end : List ℕ) (r : Remote (List ℕ))
         → from_root line ≡ Some end → remote_of (root_in end) ≡ Some r
-        → has_row rows r.name r.is_in_home ≡ false
-        → has_row rows (host_in r.name) r.is_in_home ≡ false → line_for rows line ≡ line }
+        → IfUnknown rows r (line_for rows line ≡ line) }
 {}
 
 /// What stands in place of a root by the rows of a table is an absolute path.

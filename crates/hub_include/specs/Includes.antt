@@ -1,5 +1,5 @@
 -- The lines of a profile, with those of the files that it includes.
-use Rattle.std.specs.Prelude.{ℕ, zero, suc, ◌+◌, Bool, nat_le, List, [], ◌∷◌, ◌++◌, length, drop, Result, Ok, Err, bytes_eq, if◌then◌else◌}
+use Rattle.std.specs.Prelude.{◌≡◌, ◌⊎◌, map, ℕ, zero, suc, ◌+◌, Bool, nat_le, List, [], ◌∷◌, ◌++◌, length, drop, Result, Ok, Err, bytes_eq, if◌then◌else◌}
 use Rattle.std.specs.List.{list_any}
 use Rattle.hub_text.specs.declared.line.Line as text
 use Rattle.hub_text.specs.Lines as lines
@@ -11,9 +11,10 @@ use Rattle.hub_include.specs.declared.fault.Why.TheVariants.{Cycle, TooDeep, Too
 use Rattle.hub_include.specs.declared.folder.Found.{Found}
 use Rattle.hub_include.specs.declared.folder.Found.TheVariants as found
 use Rattle.hub_include.specs.declared.lines.FileLine.{FileLine}
+use Rattle.hub_include.specs.declared.lines.Walk.{Walk}
 use Rattle.hub_include.specs.declared.target.Target.{Target}
 use Rattle.hub_include.specs.declared.target.Target.TheVariants as target
-use Rattle.hub_include.specs.Files.{Held, Known, find}
+use Rattle.hub_include.specs.Files.{Held, Known, find, known_of}
 use Rattle.hub_include.specs.Targets.{target_of}
 use Rattle.hub_include.specs.Words.{begins_with}
 use Rattle.hub_include.specs.declared.lines.TheConstants as limit
@@ -101,3 +102,26 @@ lines_of known name = lines_found known name (find known name)
 -- A borrowed line.
 abbrev pub of_line : FileLine (Bor (List ℕ)) (Bor (List ℕ)) → Placed
 of_line l = record { file = l.file.now; number = l.number; text = l.text.now }
+
+abbrev pub of_lines : List (FileLine (Bor (List ℕ)) (Bor (List ℕ))) → Lines
+of_lines ls = map of_line ls
+
+abbrev pub names_of : List (Bor (List ℕ)) → List (List ℕ)
+names_of opened = map (λ o. o.now) opened
+
+-- How a walk follows a file, where so many more may be opened below these.
+abbrev pub follow_by : Walk → ℕ → List (Bor (List ℕ)) → Follow
+follow_by w left opened = follow (known_of w.folder.now) left (names_of opened)
+
+-- It adds the lines of an open file, and a line with what this one takes in.
+abbrev pub add_file_by : Walk → ℕ → List (Bor (List ℕ)) → Held → Lines → Told
+add_file_by w left opened f done =
+    add_file (follow_by w left opened) (known_of w.folder.now) (names_of opened) f done
+
+abbrev pub add_line_by : Walk → ℕ → List (Bor (List ℕ)) → Lines → Placed → Told
+add_line_by w left opened done l =
+    add_line (follow_by w left opened) (known_of w.folder.now) (names_of opened) done l
+
+-- The lines can't be told for that fault, or there was no memory.
+abbrev pub IsFault : Told → LinesFault → Type 0
+IsFault t e = (e ≡ fault.OutOfMemory) ⊎ (t ≡ Err e)

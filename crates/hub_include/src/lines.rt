@@ -1,9 +1,9 @@
 //! The lines of a profile, with those of the files that it includes.
-ghost use Rattle.std.specs.Prelude.{◌≡◌, ◌⊎◌, ◌+◌, ◌≤◌, [], length, map, Ok, Err, IfOk, IfErr, OnOk, bytes_eq};
+ghost use Rattle.std.specs.Prelude.{◌≡◌, ◌⊎◌, ◌+◌, [], map, Ok, Err, IfOk, IfErr, OnOk, bytes_eq};
 ghost use Rattle.std.specs.List.{list_any};
 ghost use Rattle.hub_include.specs.Files.{known_of, of_file};
 ghost use Rattle.hub_include.specs.Includes as includes;
-ghost use Rattle.hub_include.specs.Includes.{of_line};
+ghost use Rattle.hub_include.specs.Includes.{of_line, of_lines};
 ghost use Rattle.hub_include.specs.declared.fault.LinesFault.TheVariants.{OutOfMemory};
 
 use crate::fault::{LineFault, LinesFault, Why};
@@ -52,8 +52,8 @@ pub fn lines_of<'a>(
 ) -> Result<Vec<FileLine<&'a str, &'a [u8]>>, LinesFault>
     ensures ok { IfOk result
         (λ v. includes.lines_of (known_of folder.now) name.now ≡ Ok (map of_line v.items)) }
-    ensures err { IfErr result (λ e. (e ≡ OutOfMemory)
-        ⊎ (includes.lines_of (known_of folder.now) name.now ≡ Err e)) }
+    ensures err { IfErr result
+        (includes.IsFault (includes.lines_of (known_of folder.now) name.now)) }
 {
     match folder.find(name) {
         Found::There(file) => lines_of_file(alloc, folder, name, file),
@@ -70,10 +70,9 @@ fn lines_of_file<'a>(
     file: HeldFile<'a>,
 ) -> Result<Vec<HeldLine<'a>>, LinesFault>
     ensures ok { IfOk result (λ v. includes.follow (known_of folder.now) MOST_OPEN []
-        (includes.placed name.now 0 []) (of_file file.entry) [] ≡ Ok (map of_line v.items)) }
-    ensures err { IfErr result (λ e. (e ≡ OutOfMemory)
-        ⊎ (includes.follow (known_of folder.now) MOST_OPEN []
-        (includes.placed name.now 0 []) (of_file file.entry) [] ≡ Err e)) }
+        (includes.placed name.now 0 []) (of_file file.entry) [] ≡ Ok (of_lines v.items)) }
+    ensures err { IfErr result (includes.IsFault (includes.follow (known_of folder.now) MOST_OPEN []
+        (includes.placed name.now 0 []) (of_file file.entry) [])) }
 {
     let mut lines = Vec::new(alloc);
     let at = FileLine {
@@ -97,13 +96,10 @@ impl<'a> Walk<'a> {
         file: HeldFile<'a>,
         left: usize,
     ) -> Result<(), LinesFault>
-        ensures ok { OnOk result (includes.follow (known_of self.now.folder.now) left
-            (map (λ o. o.now) opened.now) (of_line at.entry) (of_file file.entry)
-            (map of_line lines.old.items) ≡ Ok (map of_line lines.new.items)) }
-        ensures err { IfErr result (λ e. (e ≡ OutOfMemory)
-            ⊎ (includes.follow (known_of self.now.folder.now) left
-            (map (λ o. o.now) opened.now) (of_line at.entry) (of_file file.entry)
-            (map of_line lines.old.items) ≡ Err e)) }
+        ensures ok { OnOk result (includes.follow_by self.now left opened.now (of_line at.entry)
+            (of_file file.entry) (of_lines lines.old.items) ≡ Ok (of_lines lines.new.items)) }
+        ensures err { IfErr result (includes.IsFault (includes.follow_by self.now left opened.now
+            (of_line at.entry) (of_file file.entry) (of_lines lines.old.items))) }
     {
         if left == 0 {
             return Err(fault_at(self.alloc, at, Why::TooDeep));
@@ -122,14 +118,10 @@ impl<'a> Walk<'a> {
         file: HeldFile<'a>,
         left: usize,
     ) -> Result<(), LinesFault>
-        ensures ok { OnOk result (includes.add_file
-            (includes.follow (known_of self.now.folder.now) left (map (λ o. o.now) opened.now))
-            (known_of self.now.folder.now) (map (λ o. o.now) opened.now) (of_file file.entry)
-            (map of_line lines.old.items) ≡ Ok (map of_line lines.new.items)) }
-        ensures err { IfErr result (λ e. (e ≡ OutOfMemory) ⊎ (includes.add_file
-            (includes.follow (known_of self.now.folder.now) left (map (λ o. o.now) opened.now))
-            (known_of self.now.folder.now) (map (λ o. o.now) opened.now) (of_file file.entry)
-            (map of_line lines.old.items) ≡ Err e)) }
+        ensures ok { OnOk result (includes.add_file_by self.now left opened.now
+            (of_file file.entry) (of_lines lines.old.items) ≡ Ok (of_lines lines.new.items)) }
+        ensures err { IfErr result (includes.IsFault (includes.add_file_by self.now left opened.now
+            (of_file file.entry) (of_lines lines.old.items))) }
     {
         let mut rest = Lines::new(without_mark(file.bytes));
         let mut number = 1;
@@ -154,14 +146,10 @@ impl<'a> Walk<'a> {
         at: HeldLine<'a>,
         left: usize,
     ) -> Result<(), LinesFault>
-        ensures ok { OnOk result (includes.add_line
-            (includes.follow (known_of self.now.folder.now) left (map (λ o. o.now) opened.now))
-            (known_of self.now.folder.now) (map (λ o. o.now) opened.now)
-            (map of_line lines.old.items) (of_line at.entry) ≡ Ok (map of_line lines.new.items)) }
-        ensures err { IfErr result (λ e. (e ≡ OutOfMemory) ⊎ (includes.add_line
-            (includes.follow (known_of self.now.folder.now) left (map (λ o. o.now) opened.now))
-            (known_of self.now.folder.now) (map (λ o. o.now) opened.now)
-            (map of_line lines.old.items) (of_line at.entry) ≡ Err e)) }
+        ensures ok { OnOk result (includes.add_line_by self.now left opened.now
+            (of_lines lines.old.items) (of_line at.entry) ≡ Ok (of_lines lines.new.items)) }
+        ensures err { IfErr result (includes.IsFault (includes.add_line_by self.now left opened.now
+            (of_lines lines.old.items) (of_line at.entry))) }
     {
         if lines.len() >= MOST_LINES {
             return Err(fault_at(self.alloc, at, Why::TooLong));

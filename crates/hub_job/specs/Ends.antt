@@ -1,5 +1,6 @@
 -- How a job ends.
 use Rattle.std.specs.Prelude.{Bool, true, false, List, [], Option, Some, None, if◌then◌else◌}
+use Rattle.hub_profile.specs.Parts.{Parts}
 use Rattle.hub_tree.specs.Tree.{Archive}
 use Rattle.hub_reconcile.specs.Items.{items}
 use Rattle.hub_reconcile.specs.Sync.{next_archive}
@@ -7,6 +8,7 @@ use Rattle.hub_reconcile.specs.declared.item.Item.{Item}
 use Rattle.hub_job.specs.declared.op.Next.{Next}
 use Rattle.hub_job.specs.declared.op.Next.TheVariants as next
 use Rattle.hub_job.specs.declared.job_end.End.{End}
+use Rattle.hub_job.specs.declared.log.Logged.{Logged}
 use Rattle.hub_job.specs.declared.job_end.End.TheVariants as end
 use Rattle.hub_job.specs.Job as job
 use Rattle.hub_job.specs.JobValue.{JobValue}
@@ -22,14 +24,26 @@ is_finished end.Finished = true
 is_finished end.Stopped = false
 is_finished end.Unfinished = false
 
-abbrev pub end_of : JobValue → End
-end_of J = if J.stopped then end.Stopped else end_by (job.next J.profile J.archive J.log)
+-- How a job with this log ends, where the first argument says whether it was stopped.
+abbrev pub end_with : Bool → Parts → Archive → List Logged → End
+end_with stopped P O log = if stopped then end.Stopped else end_by (job.next P O log)
 
 -- The items of a finished job, and its next archive.
+abbrev pub items_with : Bool → Parts → Archive → List Logged → List Item
+items_with stopped P O log =
+    if is_finished (end_with stopped P O log) then items (job.view_in P O log) else []
+
+abbrev pub archive_with : Bool → Parts → Archive → List Logged → Option Archive
+archive_with stopped P O log =
+    if is_finished (end_with stopped P O log) then Some (next_archive (job.view_in P O log) O)
+    else None
+
+-- The same of a job.
+abbrev pub end_of : JobValue → End
+end_of J = end_with J.stopped J.profile J.archive J.log
+
 abbrev pub items_of : JobValue → List Item
-items_of J = if is_finished (end_of J) then items (job.view_in J.profile J.archive J.log) else []
+items_of J = items_with J.stopped J.profile J.archive J.log
 
 abbrev pub archive_left : JobValue → Option Archive
-archive_left J =
-    if is_finished (end_of J) then Some
-    (next_archive (job.view_in J.profile J.archive J.log) J.archive) else None
+archive_left J = archive_with J.stopped J.profile J.archive J.log

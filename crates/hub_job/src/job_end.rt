@@ -2,7 +2,7 @@ ghost use Rattle.std.specs.Prelude.{◌≡◌, ℕ, [], IfOk, if◌then◌else�
 ghost use Rattle.hub_path.specs.declared.side.Side.TheVariants as of_side;
 ghost use Rattle.hub_reconcile.specs.Items.{items};
 ghost use Rattle.hub_reconcile.specs.Sync.{next_archive};
-ghost use Rattle.hub_job.specs.Ends.{end_by, is_finished};
+ghost use Rattle.hub_job.specs.Ends.{end_by, is_finished, archive_with, end_with, items_with};
 ghost use Rattle.hub_job.specs.Job.{next, view_in};
 ghost use Rattle.hub_job.specs.Phase.{Follows, IsWaiting, is_stopped};
 ghost use Rattle.hub_job.specs.Run.{Runs};
@@ -49,17 +49,13 @@ pub(crate) fn ended_job(
 ) -> Result<(JobEnd, Option<Archive>), AllocError>
     requires follows { Follows profile.now archive.now log.items phase.old }
     requires run { (j : ℕ) × Runs profile.now archive.now j [] log.items }
-    ensures end { IfOk result (λ e. e.0.end ≡ (if is_stopped phase.old then End.Stopped
-        else end_by (next profile.now archive.now log.items))) }
+    ensures end { IfOk result (λ e. e.0.end
+        ≡ end_with (is_stopped phase.old) profile.now archive.now log.items) }
     ensures log { IfOk result (λ e. e.0.log ≡ log.items) }
-    ensures items { let end = if is_stopped phase.old then End.Stopped
-        else end_by (next profile.now archive.now log.items) in
-        IfOk result (λ e. e.0.items ≡ (if is_finished end
-        then items (view_in profile.now archive.now log.items) else [])) }
-    ensures archive { let end = if is_stopped phase.old then End.Stopped
-        else end_by (next profile.now archive.now log.items) in
-        IfOk result (λ e. e.1 ≡ (if is_finished end then Some
-        (next_archive (view_in profile.now archive.now log.items) archive.now) else None)) }
+    ensures items { IfOk result (λ e. e.0.items
+        ≡ items_with (is_stopped phase.old) profile.now archive.now log.items) }
+    ensures archive { IfOk result (λ e. e.1
+        ≡ archive_with (is_stopped phase.old) profile.now archive.now log.items) }
 {
     let entries = log.as_slice();
     let end = end_in(alloc, profile, archive, entries, phase)?;

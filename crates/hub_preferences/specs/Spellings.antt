@@ -1,6 +1,6 @@
 -- Values of `path` lines that Unison reads and the plain reader refuses, in the plain reader's
 -- spelling.
-use Rattle.std.specs.Prelude.{ℕ, Bool, not, ◌&&◌, ◌||◌, nat_eq, List, [], ◌∷◌, ◌++◌, Option, Some, None, if◌then◌else◌, codes, bytes_eq, encode_utf8_all}
+use Rattle.std.specs.Prelude.{◌≡◌, true, ℕ, Bool, not, ◌&&◌, ◌||◌, nat_eq, List, [], ◌∷◌, ◌++◌, Option, Some, None, if◌then◌else◌, codes, bytes_eq, encode_utf8_all}
 use Rattle.std.specs.List.{filter, flat_map, starts_with}
 use Rattle.std.specs.Str.{is_utf8, chars}
 use Rattle.hub_path.specs.Path.{Name, Path, is_place, path_of}
@@ -18,6 +18,10 @@ names_of v = filter (λ n. not (is_nothing n)) (path_of v)
 -- Names with a slash after each. The plain reader drops the last slash.
 abbrev pub with_slashes : Path → List ℕ
 with_slashes ns = flat_map (λ n. n ++ 47 ∷ []) ns
+
+-- They are those of a place, and the bytes have each of them with a slash after it.
+abbrev pub HaveSlashes : Path → List ℕ → Type 0
+HaveSlashes ns bytes = (is_place ns ≡ true) × (bytes ≡ encode_utf8_all (with_slashes ns))
 
 abbrev pub begins_with_blank : List ℕ → Bool
 begins_with_blank cs = starts_with nat_eq cs (codes " ") || starts_with nat_eq cs (codes "\t")

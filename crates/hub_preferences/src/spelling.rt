@@ -1,5 +1,5 @@
 //! Values of `path` lines that Unison reads and the plain reader refuses.
-ghost use Rattle.std.specs.Prelude.{◌≡◌, ◌++◌, ◌&&◌, ◌||◌, ◌∷◌, [], not, false, true, codes, chars, string_bytes, encode_utf8_all, IfOk, MatchOption, Some, None};
+ghost use Rattle.std.specs.Prelude.{◌≡◌, ◌++◌, ◌&&◌, ◌||◌, ◌∷◌, [], false, codes, chars, string_bytes, IfOk, MatchOption, Some, None};
 ghost use Rattle.hub_path.specs.Path.{is_place};
 ghost use Rattle.hub_profile.specs.Lines.{is_one_of};
 ghost use Rattle.hub_preferences.specs.Spellings as spec;
@@ -80,9 +80,8 @@ fn path_line(alloc: Global, value: &str) -> Result<String, AllocError>
 
 /// The names of a value that count, with a slash after each, if all are names.
 fn names_of(alloc: Global, value: &str) -> Result<Option<String>, AllocError>
-    ensures { IfOk result (λ o. MatchOption o (is_place (spec.names_of (chars value.now)) ≡ false)
-        (λ t. (is_place (spec.names_of (chars value.now)) ≡ true)
-        × (string_bytes t ≡ encode_utf8_all (spec.with_slashes (spec.names_of (chars value.now)))))) }
+    ensures { let names = spec.names_of (chars value.now) in IfOk result
+        (λ o. MatchOption o (is_place names ≡ false) (λ t. spec.HaveSlashes names (string_bytes t))) }
 {
     let mut names = String::new(alloc);
     for part in value.split('/') {

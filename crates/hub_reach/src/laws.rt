@@ -9,10 +9,11 @@ ghost use Rattle.hub_profile.specs.Parts.{Parts, IsProfile};
 ghost use Rattle.hub_reach.specs.Apart.{are_near};
 ghost use Rattle.hub_reach.specs.Mention.{Mentions};
 ghost use Rattle.hub_profile.specs.declared.verb.Verb.{Verb};
-ghost use Rattle.hub_reach.specs.Reach.{may_at, reach};
+ghost use Rattle.hub_reach.specs.Reach.{reach};
 ghost use Rattle.hub_reach.specs.Shape.{is_broken, is_named, is_text_character, shape_of};
-ghost use Rattle.hub_reach.specs.Stage.{is_broken_stage, stage_of};
+ghost use Rattle.hub_reach.specs.Stage.{is_broken_stage, stage_of, GoAlike};
 ghost use Rattle.hub_reach.specs.Walk.{is_walked};
+ghost use Rattle.hub_reach.specs.Bars.{AllowsAlike};
 
 use crate::shape::Shape;
 use crate::stage::Stage;
@@ -82,11 +83,9 @@ pub fn stages_go_on_alike()
         → reach P (path_of t) ≡ reach P (path_of u) }
     ensures allowed { (P : Parts) (t u : List ℕ) (r : Path) (verb : Verb) → IsProfile P
         → stage_of P t ≡ stage_of P u → IsTrue (is_path (path_of t))
-        → may_at P r (path_of t) verb ≡ may_at P r (path_of u) verb }
+        → AllowsAlike P r verb (path_of t) (path_of u) }
     ensures classes { (P : Parts) (ms t : List ℕ) (x y k : ℕ) → IsAlphabet ms → Mentions ms P
-        → class_of ms x ≡ Some k → class_of ms y ≡ Some k
-        → IsTrue (is_text_character x) → IsTrue (is_text_character y)
-        → stage_of P (t ++ x ∷ []) ≡ stage_of P (t ++ y ∷ []) }
+        → class_of ms x ≡ Some k → class_of ms y ≡ Some k → GoAlike P t x y }
 {
     choices_match_what_their_specification_does();
     choices_mention_what_their_specification_does();

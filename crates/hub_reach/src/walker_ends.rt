@@ -1,8 +1,8 @@
 //! The choices of a walker as masks of its rows.
-ghost use Rattle.std.specs.Prelude.{◌≡◌, ◌<◌, ◌&&◌, [], ℕ, List, length, map, not, slice_index_or, IfOk};
+ghost use Rattle.std.specs.Prelude.{◌≡◌, ◌<◌, ◌&&◌, ℕ, List, length, map, IfOk};
 ghost use Rattle.hub_automaton.specs.declared.alternatives.Alternatives.{Alternatives};
-ghost use Rattle.hub_automaton.specs.Spots.{state_after};
-ghost use Rattle.hub_reach.specs.WalkerEnds.{AreEndsOf, bar_ends, some_match};
+ghost use Rattle.hub_automaton.specs.Spots.{state_after, some_match};
+ghost use Rattle.hub_reach.specs.WalkerEnds.{AreEndsOf, bar_ends, HasBarEnds, is_ignored_by};
 ghost use Rattle.hub_reach.specs.declared.placed_bar.PlacedBar.{PlacedBar};
 ghost use Rattle.hub_reach.specs.declared.ranges.SpecRanges.{SpecRanges};
 
@@ -41,8 +41,7 @@ impl WalkerEnds {
     pub(crate) fn ignore(&self, spots: &Spots) -> bool
         ensures { (ls : List Alternatives) (a : SpecRanges) (t : List ℕ) → AreEndsOf ls a self.now
             → spots.now ≡ state_after ls t
-            → result ≡ (some_match ls t 0 a.ignore_end
-            && not (some_match ls t a.ignore_end a.ignorenot_end)) }
+            → result ≡ is_ignored_by ls a t }
     {
         spots.meets(&self.ignore) && !spots.meets(&self.ignorenot)
     }
@@ -59,8 +58,7 @@ impl WalkerEnds {
     pub(crate) fn bar(&self, number: usize, spots: &Spots) -> bool
         requires { number < length self.now.barred.items }
         ensures { (ls : List Alternatives) (t : List ℕ) → spots.now ≡ state_after ls t
-            → (b : PlacedBar)
-            → slice_index_or self.now.barred.items number [] ≡ bar_ends ls b
+            → (b : PlacedBar) → HasBarEnds self.now number ls b
             → result ≡ some_match ls t b.from b.to }
     {
         spots.meets(&self.barred[number])

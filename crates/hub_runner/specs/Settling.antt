@@ -107,6 +107,40 @@ IsFirstMismatch S Ps books jobs all at =
     × Disagrees S Ps books jobs at
     × All (Agrees S Ps books jobs) front
 
+-- What is compared.
+pub record Compared : Type 0 where
+  pub state : State
+  pub profiles : List Parts
+  pub books : List BookValue
+  pub jobs : List JobValue
+
+abbrev pub compared : State → List Parts → List BookValue → List JobValue → Compared
+compared S Ps books jobs = record { state = S; profiles = Ps; books = books; jobs = jobs }
+
+-- Each place is right; or that one is the first that is wrong.
+abbrev pub NoMismatch : Compared → Type 0
+NoMismatch x = All (Agrees x.state x.profiles x.books x.jobs) (compared_places x.profiles)
+
+abbrev pub IsMismatch : Compared → Path × Option ℕ → Type 0
+IsMismatch x at = IsFirstMismatch x.state x.profiles x.books x.jobs (compared_places x.profiles) at
+
+-- The same of the places of one root.
+abbrev pub NoMismatchAt : Compared → Path → Type 0
+NoMismatchAt x r =
+    All (Agrees x.state x.profiles x.books x.jobs) (places_at (length x.profiles) r)
+
+abbrev pub IsMismatchAt : Compared → Path → Option ℕ → Type 0
+IsMismatchAt x r job =
+    IsFirstMismatch x.state x.profiles x.books x.jobs (places_at (length x.profiles) r) (r, job)
+
+-- The profile has the root, and these entries aren't those of the job's log there; or they are, if it
+-- has it.
+abbrev pub DiffersAt : Parts → Path → List JobValue → ℕ → List Entry → Type 0
+DiffersAt P r jobs j done = IsTrue (has_root P r) × (done ≢ entries_at P r (log_at jobs j))
+
+abbrev pub FitsAt : Parts → Path → List JobValue → ℕ → List Entry → Type 0
+FitsAt P r jobs j done = IsTrue (has_root P r) → done ≡ entries_at P r (log_at jobs j)
+
 -- The entries that a mismatch shows: of the job in the root's history, and of its log there.
 abbrev pub history_shown : List BookValue → Path → Option ℕ → List Entry
 history_shown books r None = []

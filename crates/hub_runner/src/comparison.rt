@@ -1,9 +1,7 @@
 //! Roots whose books or histories don't fit.
-ghost use Rattle.std.specs.Prelude.{◌≡◌, ◌≢◌, ◌↔◌, [], ◌∷◌, fold, length, All, IsTrue, IfOk, OnOk, MatchBool, MatchOption};
+ghost use Rattle.std.specs.Prelude.{◌≡◌, [], fold, IfOk, OnOk, MatchBool, MatchOption};
 ghost use Rattle.std.specs.List.{list_any};
 ghost use Rattle.hub_path.specs.Path.{path_eq};
-ghost use Rattle.hub_reach.specs.Reach as of_reach;
-ghost use Rattle.hub_job.specs.History as of_history;
 ghost use Rattle.hub_runner.specs.Settling as spec;
 
 use crate::books::{only_book, opens_as};
@@ -31,11 +29,8 @@ pub(crate) fn find_mismatch<'a>(
     books: &[Book<'_>],
     jobs: &[Job<'_>],
 ) -> Result<Option<(&'a Root, Option<usize>)>, AllocError>
-    ensures { IfOk result (λ o. MatchOption o
-        (All (spec.Agrees state.now set.now.profiles books.now jobs.now)
-        (spec.compared_places set.now.profiles))
-        (λ at. spec.IsFirstMismatch state.now set.now.profiles books.now jobs.now
-        (spec.compared_places set.now.profiles) (at.0.now, at.1))) }
+    ensures { let all = spec.compared state.now set.now.profiles books.now jobs.now in IfOk result
+        (λ o. MatchOption o (spec.NoMismatch all) (λ at. spec.IsMismatch all (at.0.now, at.1))) }
 {
     let roots = roots_of(alloc, set.profiles())?;
     for borrowed in roots.as_slice() {
@@ -97,11 +92,8 @@ fn find_mismatch_at(
     jobs: &[Job<'_>],
     root: &Root,
 ) -> Result<Option<Option<usize>>, AllocError>
-    ensures { IfOk result (λ o. MatchOption o
-        (All (spec.Agrees state.now set.now.profiles books.now jobs.now)
-        (spec.places_at (length set.now.profiles) root.now))
-        (λ job. spec.IsFirstMismatch state.now set.now.profiles books.now jobs.now
-        (spec.places_at (length set.now.profiles) root.now) (root.now, job))) }
+    ensures { let all = spec.compared state.now set.now.profiles books.now jobs.now in IfOk result
+        (λ o. MatchOption o (spec.NoMismatchAt all root.now) (spec.IsMismatchAt all root.now)) }
 {
     let Some(book) = only_book(books, root) else {
         return Ok(Some(None));
@@ -140,10 +132,9 @@ fn differs(
     root: &Root,
     job: usize,
 ) -> Result<bool, AllocError>
-    ensures { let logged = of_history.entries_at profile.now root.now (spec.log_at jobs.now job)
-        in IfOk result (λ b. MatchBool b
-        (IsTrue (of_reach.has_root profile.now root.now) × (done.now ≢ logged))
-        (IsTrue (of_reach.has_root profile.now root.now) → done.now ≡ logged)) }
+    ensures { IfOk result (λ b. MatchBool b
+        (spec.DiffersAt profile.now root.now jobs.now job done.now)
+        (spec.FitsAt profile.now root.now jobs.now job done.now)) }
 {
     if !profile.has_root(root) {
         return Ok(false);

@@ -6,10 +6,14 @@ use Rattle.hub_reach.specs.Safe.{Rule, IsSafe}
 use Rattle.hub_state.specs.State.{State, IsState}
 use Rattle.hub_job.specs.declared.log.Entry.{Entry}
 use Rattle.hub_job.specs.declared.outcome.Outcome.{Outcome}
-use Rattle.hub_job.specs.Outcome.{IsOutcomeOf, KeepsTurns}
-use Rattle.hub_job.specs.World.{first_turns}
+use Rattle.hub_tree.specs.Tree.{IsTree}
+use Rattle.hub_job.specs.JobValue.{JobValue}
+use Rattle.hub_job.specs.Outcome.{IsOutcomeOf, KeepsTurns, LosesTurns}
+use Rattle.hub_job.specs.World.{Jobs, first_turns}
+use Rattle.hub_schedule.specs.declared.slot.WorkingTree.{WorkingTree}
+use Rattle.hub_schedule.specs.Ended.{AreEndedWith}
 use Rattle.hub_schedule.specs.Promise.{HasReplicas, Settles}
-use Rattle.hub_schedule.specs.Settled.{AreProfiles}
+use Rattle.hub_schedule.specs.Settled.{AreProfiles, Histories, IsSettled, Logs, Replicas}
 
 -- It holds where a set is safe, a state has its replicas, and histories settle an outcome.
 abbrev pub OfSafeSets : (State → List Parts → List Rule → (Path → List Entry) → Outcome → Type 0)
@@ -32,3 +36,31 @@ OfKeptTurns C =
     (S : State) (Ps : List Parts) (Rs : List Rule) (limit : ℕ → ℕ) (schedule : List ℕ) (o : Outcome)
     → IsSafe Ps Rs → IsOutcomeOf S Ps (first_turns limit schedule) o → KeepsTurns limit schedule o
     → C S Ps schedule o
+
+-- It holds where a set is safe and its state is whole, and each job kept its turns, or lost some.
+abbrev pub OfSafeRuns : (State → List Parts → List ℕ → Outcome → Type 0) → Type 0
+OfSafeRuns C =
+    (S : State) (Ps : List Parts) (Rs : List Rule) (limit : ℕ → ℕ) (schedule : List ℕ) (o : Outcome)
+    → IsState S → HasReplicas S Ps → AreProfiles Ps → IsSafe Ps Rs
+    → IsOutcomeOf S Ps (first_turns limit schedule) o → KeepsTurns limit schedule o
+    → C S Ps schedule o
+
+abbrev pub OfLostTurns : (State → List Parts → List ℕ → Outcome → Type 0) → Type 0
+OfLostTurns C =
+    (S : State) (Ps : List Parts) (Rs : List Rule) (limit : ℕ → ℕ) (schedule : List ℕ) (o : Outcome)
+    → IsState S → AreProfiles Ps → IsSafe Ps Rs → IsOutcomeOf S Ps (first_turns limit schedule) o
+    → LosesTurns S Ps limit schedule o → C S Ps schedule o
+
+-- It holds where histories fit the logs of the jobs of a safe set, whose replicas are trees.
+abbrev pub OfSafeJobs : (Jobs → List Rule → Replicas → Histories → Type 0) → Type 0
+OfSafeJobs C =
+    (J : Jobs) (Rs : List Rule) (replicas : Replicas) (histories : Histories) (logs : Logs)
+    → AreProfiles J.profiles → IsSafe J.profiles Rs → ((r : Path) → IsTree (replicas r))
+    → IsSettled J replicas histories logs → C J Rs replicas histories
+
+-- It holds of the profiles and replicas that these jobs and trees ended with.
+abbrev pub OfEnded : State → List JobValue → List WorkingTree → (List Parts → Replicas → Type 0)
+    → Type 0
+OfEnded S jobs trees C =
+    (Ps : List Parts) (replica : Replicas) → HasReplicas S Ps
+    → AreEndedWith S Ps replica jobs trees → C Ps replica

@@ -11,6 +11,17 @@ use Rattle.hub_job.specs.Alike.{Alike}
 use Rattle.hub_job.specs.Run.{Runs}
 use Rattle.hub_job.specs.World.{World, Jobs, log_of, alone, run, opening}
 use Rattle.hub_job.specs.History.{replay, IsLegal, Agree}
+use Rattle.hub_job.specs.Same.{NoneClash}
+
+-- The replica and the history of each root, and the log of each job.
+abbrev pub Replicas : Type 0
+Replicas = Path → Replica
+
+abbrev pub Histories : Type 0
+Histories = Path → List Entry
+
+abbrev pub Logs : Type 0
+Logs = ℕ → List Logged
 
 abbrev pub AreProfiles : List Parts → Type 0
 AreProfiles Ps = (j : ℕ) (P : Parts) → slice_get Ps j ≡ Some P → IsProfile P
@@ -39,3 +50,22 @@ pub record IsSettledWorld (J : Jobs) (replicas : Path → Replica) (w : World) :
   pub fits : IsSettled J replicas w.history (log_of w)
   pub replayed : (r : Path) → w.replica r ≡ replay (replicas r) (w.history r)
   pub count : length w.logs ≡ length J.profiles
+
+-- To each job they are.
+abbrev pub AreAsAlone : Jobs → Replicas → Histories → Logs → Type 0
+AreAsAlone J replicas histories logs =
+    (j : ℕ) (P : Parts) → slice_get J.profiles j ≡ Some P
+    → IsAsAlone J replicas histories logs j P
+
+-- It holds where histories and logs of jobs that don't clash fit together.
+abbrev pub OfSettled : (Jobs → Replicas → Histories → Logs → Type 0) → Type 0
+OfSettled C =
+    (J : Jobs) (replicas : Replicas) (histories : Histories) (logs : Logs) → NoneClash J.profiles
+    → AreProfiles J.profiles → IsSettled J replicas histories logs → C J replicas histories logs
+
+-- It holds of a root of a job, where histories and logs fit together.
+abbrev pub AtRootsOfJobs : (Jobs → Replicas → Histories → Path → Type 0) → Type 0
+AtRootsOfJobs C =
+    (J : Jobs) (replicas : Replicas) (histories : Histories) (logs : Logs) (j : ℕ) (P : Parts)
+    (r : Path) → IsSettled J replicas histories logs → slice_get J.profiles j ≡ Some P
+    → IsTrue (has_root P r) → C J replicas histories r

@@ -1,5 +1,5 @@
 -- Jobs and replicas that a schedule works on, against the world that they stand for.
-use Rattle.std.specs.Prelude.{◌≡◌, ◌≢◌, ◌≤◌, ◌<◌, ◌⊎◌, ◌==◌, ℕ, Bool, true, false, List, length, slice_get, count_by, Some}
+use Rattle.std.specs.Prelude.{◌≡◌, ◌≢◌, ◌≤◌, ◌<◌, ◌⊎◌, ◌==◌, ℕ, Bool, true, false, List, length, slice_get, count_by, Some, if◌then◌else◌}
 use Rattle.std.specs.List.{list_any}
 use Rattle.hub_path.specs.Path.{Path}
 use Rattle.hub_path.specs.declared.side.Side.{Side}
@@ -17,9 +17,11 @@ use Rattle.hub_reach.specs.Reach.{has_root}
 use Rattle.hub_tree.specs.Tree.{Replica, Archive}
 use Rattle.hub_schedule.specs.declared.slot.Slot.{Slot}
 use Rattle.hub_schedule.specs.declared.slot.WorkingTree.{WorkingTree}
-use Rattle.hub_job.specs.JobValue.{JobValue, new_job}
+use Rattle.hub_job.specs.declared.asked.Asked.{Asked}
+use Rattle.hub_job.specs.JobValue.{JobValue, new_job, with_answer}
+use Rattle.hub_job.specs.Machine.{after, answer}
 use Rattle.hub_job.specs.Run.{root_at}
-use Rattle.hub_job.specs.World.{World, Jobs, log_of, run, first_turns}
+use Rattle.hub_job.specs.World.{World, Jobs, log_of, run, first_turns, turn}
 
 abbrev pub place_on : Slot → Side → ℕ
 place_on s Left = s.left
@@ -84,6 +86,16 @@ pub record ShowsWorld (J : Jobs) (w : World) (slots : List Slot) (trees : List W
   pub replicas : AreTrees w.replica trees
   pub roots : (k : ℕ) (t : WorkingTree) → slice_get trees k ≡ Some t
       → list_any (λ P. has_root P t.root.now) J.profiles ≡ true
+
+-- The world after a turn of a job, or the same world, where the job is stopped.
+abbrev pub world_then : Jobs → List Slot → ℕ → World → World
+world_then J slots j w = if stopped_at slots j then w else turn J j w
+
+-- The job has the answer of the replica, and the replica is what the operation leaves of it.
+abbrev pub IsAnswered : Slot → WorkingTree → Asked → Slot → WorkingTree → Type 0
+IsAnswered s t a s_now t_now =
+    (s_now ≡ with_job s (with_answer s.job a (answer t.tree s.job.profile t.root.now a.op)))
+    × (t_now ≡ with_tree_after t (after t.tree a.op))
 
 -- If the job is stopped and has made a step, it would have asked for another one.
 abbrev pub WouldAsk : JobValue → Type 0

@@ -11,7 +11,7 @@ use Rattle.hub_reconcile.specs.Items.{verb_of}
 use Rattle.hub_job.specs.declared.log.Entry.{Entry}
 use Rattle.hub_job.specs.declared.log.Logged.{Logged}
 use Rattle.hub_job.specs.declared.op.Op.TheVariants.{Set}
-use Rattle.hub_job.specs.World.{Jobs, run, opening, alone}
+use Rattle.hub_job.specs.World.{Jobs, alone, log_of, opening, run, run_from}
 use Rattle.hub_job.specs.History.{replay}
 
 -- What a root's history leaves of its replica.
@@ -72,3 +72,13 @@ SetsAreAllowed Ps Rs replicas histories =
     → e.op ≡ Set p c
     → IsTrue (may_at Q r p (verb_of (mark_at (replay (replicas r) front) p) (mark_of c)))
     × NoRuleForbids Rs r (contents_at (replay (replicas r) front) p) c p
+
+-- After these turns each path of the root that no job of the root reaches is as it was.
+abbrev pub ElsewhereStays : Jobs → (Path → Replica) → List ℕ → Path → Type 0
+ElsewhereStays J replicas js r =
+    ElsewhereIsAsBefore J.profiles r (replicas r) ((run_from J replicas js).replica r)
+
+-- After these turns each job's own paths are as if it had been alone.
+abbrev pub OwnPathsStay : Jobs → (Path → Replica) → List ℕ → Type 0
+OwnPathsStay J replicas js =
+    OwnPathsAreAlone J replicas (run_from J replicas js).replica (log_of (run_from J replicas js))

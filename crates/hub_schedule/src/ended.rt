@@ -6,8 +6,9 @@ ghost use Rattle.hub_tree.specs.Tree.{Replica};
 ghost use Rattle.hub_job.specs.Outcome.{IsOutcomeWith};
 ghost use Rattle.hub_job.specs.JobValue.{JobValue};
 ghost use Rattle.hub_schedule.specs.Ended.{AreEndedWith, AreSlotsOf, HasPlaces, IsSlotOf, ended_value};
-ghost use Rattle.hub_schedule.specs.Promise.{HasReplicas, logs_in};
+ghost use Rattle.hub_schedule.specs.Promise.{logs_in};
 ghost use Rattle.hub_schedule.specs.Table.{IsTreeNumber};
+ghost use Rattle.hub_schedule.specs.Safely.{OfEnded};
 
 use crate::schedule::outcome_of;
 use crate::slot::{Slot, WorkingTree};
@@ -27,10 +28,8 @@ pub fn outcome_of_jobs<'a>(
 ) -> Result<Outcome, AllocError>
     requires { (Ps : List Parts) × (replica : Path → Replica)
         × AreEndedWith state.now Ps replica jobs.items trees.items }
-    ensures outcome { IfOk result (λ o. (Ps : List Parts) (replica : Path → Replica)
-        → HasReplicas state.now Ps
-        → AreEndedWith state.now Ps replica jobs.entry.items trees.entry.items
-        → IsOutcomeWith state.now Ps (logs_in o) replica o) }
+    ensures outcome { IfOk result (λ o. OfEnded state.now jobs.entry.items trees.entry.items
+        (λ Ps replica. IsOutcomeWith state.now Ps (logs_in o) replica o)) }
     ensures ends { IfOk result (λ o. o.jobs ≡ map ended_value jobs.entry.items) }
 {
     let slots = slots_of(alloc, jobs, trees.as_slice())?;

@@ -1,5 +1,5 @@
 //! How the jobs of a schedule end, and what they leave in the state.
-ghost use Rattle.std.specs.Prelude.{◌≡◌, ◌≢◌, false, ◌&&◌, map, fold, IfOk, OnOk, if◌then◌else◌};
+ghost use Rattle.std.specs.Prelude.{◌≡◌, false, map, fold, IfOk, OnOk, if◌then◌else◌};
 ghost use Rattle.hub_path.specs.Path.{Path};
 ghost use Rattle.hub_reach.specs.Reach.{reach};
 ghost use Rattle.hub_tree.specs.Tree as of_tree;
@@ -179,8 +179,7 @@ fn take_marks(
     merged: &mut Archive,
 ) -> Result<(), AllocError>
     ensures { OnOk result ((p : Path) → of_tree.old_mark_at merged.new p
-        ≡ (if spec.has_mark paths.now p && reach profile.now p then of_tree.old_mark_at next.now p
-        else of_tree.old_mark_at merged.old p)) }
+        ≡ spec.mark_taken profile.now next.now paths.now merged.old p) }
 {
     for (path, _) in paths.iter() {
         if reaches(profile, path) {

@@ -1,20 +1,15 @@
 //! The promise of a safe set: where the checker accepted the set, the order in which its jobs take turns makes no
 //! difference to any of them. Each law is the contract of a function that does nothing.
-ghost use Rattle.std.specs.Prelude.{◌≡◌, ◌≢◌, ◌≤◌, ℕ, List, replicate, slice_get, Some};
-ghost use Rattle.hub_path.specs.Path.{Path};
+ghost use Rattle.std.specs.Prelude.{ℕ, List};
 ghost use Rattle.hub_profile.specs.Parts.{Parts};
 ghost use Rattle.hub_reach.specs.Safe.{Rule, IsSafe};
 ghost use Rattle.hub_state.specs.State.{State, IsState};
-ghost use Rattle.hub_job.specs.declared.job_end.End.TheVariants as end;
-ghost use Rattle.hub_job.specs.declared.job_end.JobEnd.{JobEnd};
 ghost use Rattle.hub_job.specs.declared.outcome.Outcome.{Outcome};
-ghost use Rattle.hub_job.specs.declared.log.Entry.{Entry};
-ghost use Rattle.hub_job.specs.Outcome.{IsOutcomeOf, KeepsTurns, LosesTurns, world_after};
-ghost use Rattle.hub_schedule.specs.Promise.{EnoughTurnsFinish, FinishedAreSynchronized, ForeignAreAsBefore, HasReplicas, IsAsIfAlone, IsAsPromised, OldMarksStay, Settles};
-ghost use Rattle.hub_schedule.specs.Safely.{OfKeptTurns, OfSafeSets, OfSafeTurns};
-ghost use Rattle.hub_schedule.specs.Settled.{AreProfiles};
-ghost use Rattle.hub_schedule.specs.Simulated.{EnoughTurnsEnd, IsLoneSynchronization, LogsAreOfTurns, StoppedLostTurns, TurnsSuffice, turns_enough};
-ghost use Rattle.hub_job.specs.World.{first_turns};
+ghost use Rattle.hub_job.specs.Outcome.{IsOutcomeOf, world_after};
+ghost use Rattle.hub_schedule.specs.Promise.{EnoughTurnsFinish, FinishedAreSynchronized, ForeignAreAsBefore, IsAsIfAlone, IsAsPromised, OldMarksStay, Settles};
+ghost use Rattle.hub_schedule.specs.Safely.{OfKeptTurns, OfSafeSets, OfSafeTurns, OfLostTurns, OfSafeRuns};
+ghost use Rattle.hub_schedule.specs.Settled.{AreProfiles, Histories};
+ghost use Rattle.hub_schedule.specs.Simulated.{EnoughTurnsEnd, LogsAreOfTurns, StoppedLostTurns, TurnsSuffice, LoneIsSynchronized};
 
 use crate::together::{a_run_settles, each_set_is_allowed, jobs_leave_each_other_alone};
 use hub_job::laws::{a_job_without_turns_reaches_nothing, each_log_is_the_one_alone};
@@ -24,9 +19,9 @@ use hub_job::laws::{a_job_without_turns_reaches_nothing, each_log_is_the_one_alo
 /// replica of no profile is the same as before.
 pub fn finished_jobs_synchronize()
     ensures finished { OfSafeSets (λ S Ps Rs histories o. FinishedAreSynchronized S Ps o) }
-    ensures marks { (S : State) (Ps : List Parts) (histories : Path → List Entry) (o : Outcome)
+    ensures marks { (S : State) (Ps : List Parts) (histories : Histories) (o : Outcome)
         → Settles S Ps histories o → OldMarksStay S Ps o }
-    ensures foreign { (S : State) (Ps : List Parts) (histories : Path → List Entry) (o : Outcome)
+    ensures foreign { (S : State) (Ps : List Parts) (histories : Histories) (o : Outcome)
         → Settles S Ps histories o → ForeignAreAsBefore S Ps o.state }
 {
     jobs_leave_each_other_alone();
@@ -35,8 +30,8 @@ pub fn finished_jobs_synchronize()
 /// Of an outcome that histories settle: a job of a safe set that wasn't stopped, and that took as many turns as it takes
 /// alone until it is finished, is finished.
 pub fn enough_turns_finish()
-    ensures { (S : State) (Ps : List Parts) (Rs : List Rule) (histories : Path → List Entry)
-        (o : Outcome) → IsState S → AreProfiles Ps → IsSafe Ps Rs → Settles S Ps histories o
+    ensures { (S : State) (Ps : List Parts) (Rs : List Rule) (histories : Histories) (o : Outcome)
+        → IsState S → AreProfiles Ps → IsSafe Ps Rs → Settles S Ps histories o
         → EnoughTurnsFinish S Ps o }
 {
     jobs_leave_each_other_alone();
@@ -78,10 +73,7 @@ pub fn schedules_give_logs_alone()
     ensures enough { OfKeptTurns EnoughTurnsEnd }
     ensures suffice { (S : State) (Ps : List Parts) → IsState S → AreProfiles Ps
         → TurnsSuffice S Ps }
-    ensures lost { (S : State) (Ps : List Parts) (Rs : List Rule) (limit : ℕ → ℕ)
-        (schedule : List ℕ) (o : Outcome) → IsState S → AreProfiles Ps → IsSafe Ps Rs
-        → IsOutcomeOf S Ps (first_turns limit schedule) o → LosesTurns S Ps limit schedule o
-        → StoppedLostTurns S Ps schedule o }
+    ensures lost { OfLostTurns StoppedLostTurns }
 {
     each_log_is_the_one_alone();
 }
@@ -90,12 +82,7 @@ pub fn schedules_give_logs_alone()
 /// n entries in its two replicas; nothing was refused to it; and its replicas, their archive and its items are those of
 /// one synchronization, on all paths.
 pub fn a_lone_job_is_synchronized()
-    ensures { (S : State) (Ps : List Parts) (Rs : List Rule) (limit : ℕ → ℕ) (o : Outcome)
-        (j n : ℕ) (P : Parts) (e : JobEnd) → IsState S → HasReplicas S Ps → AreProfiles Ps
-        → IsSafe Ps Rs → IsOutcomeOf S Ps (first_turns limit (replicate n j)) o
-        → KeepsTurns limit (replicate n j) o → slice_get Ps j ≡ Some P
-        → slice_get o.jobs j ≡ Some e → e.end ≢ end.Stopped → turns_enough S P ≤ n
-        → IsLoneSynchronization S P e o.state }
+    ensures { OfSafeRuns LoneIsSynchronized }
 {
     a_job_without_turns_reaches_nothing();
     a_run_settles();

@@ -5,18 +5,12 @@ ghost use Rattle.std.specs.List.{list_any};
 ghost use Rattle.hub_path.specs.Path.{Path};
 ghost use Rattle.hub_profile.specs.Parts.{Parts};
 ghost use Rattle.hub_reach.specs.Reach.{has_root};
-ghost use Rattle.hub_reach.specs.Safe.{Rule, IsSafe};
-ghost use Rattle.hub_tree.specs.Tree.{Replica, IsTree, contents_at};
-ghost use Rattle.hub_tree.specs.declared.contents.Contents.{Contents};
-ghost use Rattle.hub_job.specs.declared.log.Entry.{Entry};
-ghost use Rattle.hub_job.specs.declared.log.Logged.{Logged};
-ghost use Rattle.hub_job.specs.declared.op.Op.TheVariants.{Set};
-ghost use Rattle.hub_job.specs.History.{replay};
-ghost use Rattle.hub_schedule.specs.Owned.{IsItsOwn, NobodyWrites};
+ghost use Rattle.hub_schedule.specs.Owned.{SetsAreTheirOwn, UnwrittenStay};
 ghost use Rattle.hub_job.specs.Same.{NoneClash};
-ghost use Rattle.hub_schedule.specs.Settled.{AreProfiles, IsSettled, IsAsAlone, IsSettledWorld};
-ghost use Rattle.hub_schedule.specs.Together.{left_at, LogsAreAlone, OthersAreLeftAlone, OwnPathsAreAlone, ElsewhereIsAsBefore, SetsAreAllowed};
-ghost use Rattle.hub_job.specs.World.{Jobs, log_of, run, opening};
+ghost use Rattle.hub_schedule.specs.Settled.{AreProfiles, IsSettled, IsSettledWorld, AreAsAlone, AtRootsOfJobs, Histories, Logs, OfSettled, Replicas};
+ghost use Rattle.hub_schedule.specs.Together.{left_at, LogsAreAlone, OthersAreLeftAlone, OwnPathsAreAlone, ElsewhereIsAsBefore, SetsAreAllowed, ElsewhereStays, OwnPathsStay};
+ghost use Rattle.hub_job.specs.World.{Jobs, run_from};
+ghost use Rattle.hub_schedule.specs.Safely.{OfSafeJobs};
 
 use hub_job::laws::{
     a_job_asks_only_what_it_may, answers_are_by_what_they_depend_on, others_change_no_answer,
@@ -26,17 +20,14 @@ use hub_tree::laws::a_set_keeps_trees;
 /// After each schedule of turns the histories of the replicas are legal and agree with the logs of the jobs, each log is
 /// a run of its job, and each replica is what its history leaves of the opening.
 pub fn a_run_settles()
-    ensures { (J : Jobs) (replicas : Path → Replica) (js : List ℕ)
-        → IsSettledWorld J replicas (run J js (opening J replicas)) }
+    ensures { (J : Jobs) (replicas : Replicas) (js : List ℕ)
+        → IsSettledWorld J replicas (run_from J replicas js) }
 {}
 
 /// Where histories are legal, and agree with the logs of jobs that don't clash, each log is the one that its job gets
 /// alone. No order between the histories of two replicas is used.
 pub fn agreeing_histories_are_as_alone()
-    ensures { (J : Jobs) (replicas : Path → Replica) (histories : Path → List Entry)
-        (logs : ℕ → List Logged) (j : ℕ) (P : Parts) → NoneClash J.profiles
-        → AreProfiles J.profiles → slice_get J.profiles j ≡ Some P
-        → IsSettled J replicas histories logs → IsAsAlone J replicas histories logs j P }
+    ensures { OfSettled AreAsAlone }
 {
     a_job_asks_only_what_it_may();
     answers_are_by_what_they_depend_on();
@@ -46,22 +37,17 @@ pub fn agreeing_histories_are_as_alone()
 /// Where histories are legal, and agree with the logs of jobs that don't clash, each Set in them stands where its job
 /// writes, and at no path that the answers to another job of the root depend on: none that it reaches or passes through.
 pub fn each_set_is_its_own()
-    ensures { (J : Jobs) (replicas : Path → Replica) (histories : Path → List Entry)
-        (logs : ℕ → List Logged) (i : ℕ) (P : Parts) (r : Path) (k : ℕ) (e : Entry) (p : Path)
-        (c : Contents) → NoneClash J.profiles → IsSettled J replicas histories logs
-        → slice_get J.profiles i ≡ Some P → IsTrue (has_root P r)
-        → slice_get (histories r) k ≡ Some e → e.op ≡ Set p c → IsItsOwn J.profiles r e p }
+    ensures { (J : Jobs) (replicas : Replicas) (histories : Histories) (logs : Logs)
+        → NoneClash J.profiles → IsSettled J replicas histories logs
+        → SetsAreTheirOwn J.profiles histories }
 {
     a_job_asks_only_what_it_may();
 }
 
 /// Where histories are legal and agree with the logs of jobs, a path that no job of the root writes is as at the opening.
 pub fn what_nobody_writes_stays()
-    ensures { (J : Jobs) (replicas : Path → Replica) (histories : Path → List Entry)
-        (logs : ℕ → List Logged) (i : ℕ) (P : Parts) (r p : Path)
-        → IsSettled J replicas histories logs → slice_get J.profiles i ≡ Some P
-        → IsTrue (has_root P r) → NobodyWrites J.profiles r p
-        → contents_at (replay (replicas r) (histories r)) p ≡ contents_at (replicas r) p }
+    ensures { AtRootsOfJobs (λ J replicas histories r.
+        UnwrittenStay J.profiles r (replicas r) (left_at replicas histories r)) }
 {
     a_job_asks_only_what_it_may();
     a_set_keeps_trees();
@@ -71,21 +57,14 @@ pub fn what_nobody_writes_stays()
 /// changes what another job passes through, each job's own paths are as when it was alone, and what nobody reaches is as
 /// it was.
 pub fn jobs_leave_each_other_alone()
-    ensures logs { (J : Jobs) (replicas : Path → Replica) (histories : Path → List Entry)
-        (logs : ℕ → List Logged) → NoneClash J.profiles → AreProfiles J.profiles
-        → IsSettled J replicas histories logs → LogsAreAlone J replicas logs }
-    ensures others { (J : Jobs) (replicas : Path → Replica) (histories : Path → List Entry)
-        (logs : ℕ → List Logged) → NoneClash J.profiles → IsSettled J replicas histories logs
+    ensures logs { OfSettled (λ J replicas histories logs. LogsAreAlone J replicas logs) }
+    ensures others { (J : Jobs) (replicas : Replicas) (histories : Histories) (logs : Logs)
+        → NoneClash J.profiles → IsSettled J replicas histories logs
         → OthersAreLeftAlone J replicas histories }
-    ensures own { (J : Jobs) (replicas : Path → Replica) (histories : Path → List Entry)
-        (logs : ℕ → List Logged) → NoneClash J.profiles → AreProfiles J.profiles
-        → IsSettled J replicas histories logs
-        → OwnPathsAreAlone J replicas (left_at replicas histories) logs }
-    ensures elsewhere { (J : Jobs) (replicas : Path → Replica) (histories : Path → List Entry)
-        (logs : ℕ → List Logged) (j : ℕ) (P : Parts) (r : Path)
-        → IsSettled J replicas histories logs → slice_get J.profiles j ≡ Some P
-        → IsTrue (has_root P r)
-        → ElsewhereIsAsBefore J.profiles r (replicas r) (left_at replicas histories r) }
+    ensures own { OfSettled (λ J replicas histories logs.
+        OwnPathsAreAlone J replicas (left_at replicas histories) logs) }
+    ensures elsewhere { AtRootsOfJobs (λ J replicas histories r.
+        ElsewhereIsAsBefore J.profiles r (replicas r) (left_at replicas histories r)) }
 {
     a_job_asks_only_what_it_may();
     others_change_no_answer();
@@ -95,19 +74,16 @@ pub fn jobs_leave_each_other_alone()
 
 /// The same of the world after a schedule of turns. A replica of no profile is never changed.
 pub fn a_run_leaves_others_alone()
-    ensures others { (J : Jobs) (replicas : Path → Replica) (js : List ℕ) → NoneClash J.profiles
-        → OthersAreLeftAlone J replicas (run J js (opening J replicas)).history }
-    ensures own { (J : Jobs) (replicas : Path → Replica) (js : List ℕ) → NoneClash J.profiles
-        → AreProfiles J.profiles
-        → OwnPathsAreAlone J replicas (run J js (opening J replicas)).replica
-        (log_of (run J js (opening J replicas))) }
-    ensures elsewhere { (J : Jobs) (replicas : Path → Replica) (js : List ℕ) (j : ℕ) (P : Parts)
+    ensures others { (J : Jobs) (replicas : Replicas) (js : List ℕ) → NoneClash J.profiles
+        → OthersAreLeftAlone J replicas (run_from J replicas js).history }
+    ensures own { (J : Jobs) (replicas : Replicas) (js : List ℕ) → NoneClash J.profiles
+        → AreProfiles J.profiles → OwnPathsStay J replicas js }
+    ensures elsewhere { (J : Jobs) (replicas : Replicas) (js : List ℕ) (j : ℕ) (P : Parts)
         (r : Path) → slice_get J.profiles j ≡ Some P → IsTrue (has_root P r)
-        → ElsewhereIsAsBefore J.profiles r (replicas r)
-        ((run J js (opening J replicas)).replica r) }
-    ensures foreign { (J : Jobs) (replicas : Path → Replica) (js : List ℕ) (r : Path)
+        → ElsewhereStays J replicas js r }
+    ensures foreign { (J : Jobs) (replicas : Replicas) (js : List ℕ) (r : Path)
         → list_any (λ P. has_root P r) J.profiles ≡ false
-        → (run J js (opening J replicas)).replica r ≡ replicas r }
+        → (run_from J replicas js).replica r ≡ replicas r }
 {
     a_run_settles();
     jobs_leave_each_other_alone();
@@ -116,10 +92,8 @@ pub fn a_run_leaves_others_alone()
 /// Each Set in histories that fit the logs of the jobs of a safe set creates, updates or deletes what its job's profile
 /// allows there, judged by the contents that it finds, and breaks no rule.
 pub fn each_set_is_allowed()
-    ensures { (J : Jobs) (Rs : List Rule) (replicas : Path → Replica)
-        (histories : Path → List Entry) (logs : ℕ → List Logged) → AreProfiles J.profiles
-        → IsSafe J.profiles Rs → ((r : Path) → IsTree (replicas r))
-        → IsSettled J replicas histories logs → SetsAreAllowed J.profiles Rs replicas histories }
+    ensures { OfSafeJobs (λ J Rs replicas histories.
+        SetsAreAllowed J.profiles Rs replicas histories) }
 {
     a_job_asks_only_what_it_may();
     answers_are_by_what_they_depend_on();

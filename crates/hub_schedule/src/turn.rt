@@ -1,8 +1,7 @@
 //! Turns of jobs on shared replicas.
-ghost use Rattle.std.specs.Prelude.{◌≡◌, ◌<◌, ℕ, true, false, length, Some, All, if◌then◌else◌};
+ghost use Rattle.std.specs.Prelude.{◌≡◌, ◌<◌, ℕ, true, false, length, Some, All};
 ghost use Rattle.hub_job.specs.JobValue as value;
-ghost use Rattle.hub_job.specs.Machine as machine;
-ghost use Rattle.hub_schedule.specs.Table.{AllWouldAsk, AreTreeNumbers, HaveTurned, ShowsWorld, StayStopped, stopped_at, with_job, with_tree_after};
+ghost use Rattle.hub_schedule.specs.Table.{AllWouldAsk, AreTreeNumbers, HaveTurned, ShowsWorld, StayStopped, stopped_at, with_job, IsAnswered, world_then};
 ghost use Rattle.hub_job.specs.World.{Jobs, World, turn};
 
 use crate::slot::{Slot, WorkingTree};
@@ -39,8 +38,7 @@ fn take_turn(
     requires placed { AreTreeNumbers slots.old.items trees.old.items }
     requires number { number < length slots.old.items }
     ensures turn { (J : Jobs) (w : World) → ShowsWorld J w slots.old.items trees.old.items
-        → ShowsWorld J (if stopped_at slots.new.items number then w else turn J number w)
-        slots.new.items trees.new.items }
+        → ShowsWorld J (world_then J slots.new.items number w) slots.new.items trees.new.items }
     ensures stays { StayStopped (stopped_at slots.old.items) (stopped_at slots.new.items) }
     ensures others { (j : ℕ) → stopped_at slots.new.items j ≡ true
         → stopped_at slots.old.items j ≡ false → j ≡ number }
@@ -63,10 +61,8 @@ fn answer(alloc: Global, slot: &mut Slot<'_>, replica: &mut WorkingTree<'_>, sid
         → (slot.new ≡ with_job slot.old (value.stopped_job slot.old.job))
         × (replica.new ≡ replica.old) }
     ensures made { slot.new.job.stopped ≡ false
-        → (slot.new ≡ with_job slot.old (value.with_answer slot.old.job
-        (record { side = side; op = op.now })
-        (machine.answer replica.old.tree slot.old.job.profile replica.old.root.now op.now)))
-        × (replica.new ≡ with_tree_after replica.old (machine.after replica.old.tree op.now)) }
+        → IsAnswered slot.old replica.old (record { side = side; op = op.now })
+        slot.new replica.new }
 {
     match perform(
         alloc,

@@ -4,6 +4,7 @@ use Rattle.std.specs.Io.KnownBytes.{Appends}
 use Rattle.hub_state.specs.declared.fault.Fault.{Fault}
 use Rattle.hub_state.specs.declared.fault.Fault.TheVariants.{ReadFailed, WriteFailed, TurnsSpent, OutOfMemory}
 use Rattle.hub_state.specs.declared.fault.StateFault.{StateFault}
+use Rattle.hub_state.specs.Writing.{joined_lines}
 
 -- These bytes come after what the writer holds and the buffer before. The writer then holds some of
 -- them, and the buffer has the others.
@@ -44,3 +45,8 @@ says f (Err e) = f e
 abbrev pub reports : {T : Type 0} → (Fault → Bool) → Result T StateFault → Bool
 reports f (Ok x) = false
 reports f (Err e) = f e.fault
+
+-- The same of these lines.
+abbrev pub PassesLines : Option (List ℕ) → Option (List ℕ) → List ℕ → List ℕ → List (List ℕ)
+    → Type 0
+PassesLines old new before after ls = Passes old new before after (joined_lines ls)

@@ -70,3 +70,16 @@ pub record IsState (S : State) : Type 0 where
       × IsTrue (is_before (name_cmp (root_text r) (root_text s)))
   pub marks : (k : List Text) (a : Archive) → fin.get S.archives k ≡ Some a
       → IsArchive a × HasPaths a × HasDigests a
+
+-- Both states have the same replica at each root, and the same archive at each pair of roots.
+abbrev pub HaveSameReplicas : State → State → Type 0
+HaveSameReplicas S T = (r : Path) → IsTrue (is_place r) → replica_at S r ≡ replica_at T r
+
+abbrev pub HaveSameArchives : State → State → Type 0
+HaveSameArchives S T =
+    (r s : Path) → IsTrue (is_place r) → IsTrue (is_place s) → archive_at S r s ≡ archive_at T r s
+
+-- An archive that is put at the roots r and s is there, in either order, and no other pair's changes.
+abbrev pub IsPut : State → Path → Path → Archive → Path → Path → Type 0
+IsPut S r s a p q =
+    archive_at (with_archive S r s a) p q ≡ (if is_pair r s p q then Some a else archive_at S p q)

@@ -21,6 +21,10 @@ by_two es = keyed (λ m. by_text m.entries) es
 abbrev pub pairs_below : {X : Type 0} → Text → List (Text × X) → List (List Text × X)
 pairs_below t es = map (λ e. (t ∷ e.0 ∷ [], e.1)) es
 
+-- The same of the entries of a map from texts.
+abbrev pub pairs_at : {Z X : Type 0} → Text → List (String Z × X) → List (List Text × X)
+pairs_at t es = pairs_below t (by_text es)
+
 abbrev pub pairs : {X : Type 0} → List (Text × List (Text × X)) → List (List Text × X)
 pairs [] = []
 pairs (e ∷ es) = pairs_below e.0 e.1 ++ pairs es

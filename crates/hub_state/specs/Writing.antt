@@ -117,3 +117,10 @@ joined_lines ls = flat_map (λ l. l ++ 10 ∷ []) ls
 
 unfoldable pub state_text : State → List ℕ
 state_text S = joined_lines (state_lines S)
+
+-- The lines of several replicas, and of several archives.
+abbrev pub replicas_lines : Version → List (Text × Replica) → List (List ℕ)
+replicas_lines v es = flat_map (replica_lines v) es
+
+abbrev pub archives_lines : List (List Text × Archive) → List (List ℕ)
+archives_lines es = flat_map archive_lines es

@@ -4,7 +4,7 @@ ghost use Rattle.hub_path.specs.Path.{Path, is_place, path_eq};
 ghost use Rattle.hub_tree.specs.Tree.{Replica, Archive};
 ghost use Rattle.hub_state.specs.Readable.{IsReadable};
 ghost use Rattle.hub_state.specs.Reading.{state_reading};
-ghost use Rattle.hub_state.specs.State.{State, IsState, is_pair, replica_at, archive_at, with_replica, with_archive};
+ghost use Rattle.hub_state.specs.State.{State, IsState, replica_at, archive_at, with_replica, HaveSameArchives, HaveSameReplicas, IsPut};
 ghost use Rattle.hub_state.specs.Writing.{state_text};
 
 /// The text of a state within the limits reads as the same state.
@@ -23,14 +23,11 @@ pub fn archives_are_by_unordered_pair()
     ensures turned { (S : State) (r s : Path) → archive_at S r s ≡ archive_at S s r }
     ensures put { (S : State) (r s p q : Path) (a : Archive) → IsTrue (is_place r)
         → IsTrue (is_place s) → IsTrue (is_place p) → IsTrue (is_place q)
-        → archive_at (with_archive S r s a) p q
-        ≡ (if is_pair r s p q then Some a else archive_at S p q) }
+        → IsPut S r s a p q }
 {}
 
 /// States with the same replica at each root and the same archive at each pair of roots are equal.
 pub fn states_are_their_replicas_and_archives()
-    ensures { (S T : State) → IsState S → IsState T
-        → ((r : Path) → IsTrue (is_place r) → replica_at S r ≡ replica_at T r)
-        → ((r s : Path) → IsTrue (is_place r) → IsTrue (is_place s)
-        → archive_at S r s ≡ archive_at T r s) → S ≡ T }
+    ensures { (S T : State) → IsState S → IsState T → HaveSameReplicas S T → HaveSameArchives S T
+        → S ≡ T }
 {}

@@ -7,12 +7,12 @@ ghost use Rattle.std.specs.BTreeMap.{IsOrdered};
 ghost use Rattle.std.specs.String.{string_cmp};
 ghost use Rattle.hex.specs.Hex.{encode_lower};
 ghost use Rattle.hub_tree.specs.Stored.{stored_contents};
-ghost use Rattle.hub_state.specs.Devices.{Passes, StopsWriting, is_write_failed, says, reports};
-ghost use Rattle.hub_state.specs.View.{by_text, pairs_below, pairs_in};
-ghost use Rattle.hub_state.specs.Writing.{dir_line, file_line, hex_field, file_field, pair_lines};
-ghost use Rattle.hub_state.specs.Writing.{contents_lines, mark_lines, replica_lines};
+ghost use Rattle.hub_state.specs.Devices.{Passes, StopsWriting, is_write_failed, says, reports, PassesLines};
+ghost use Rattle.hub_state.specs.View.{by_text, pairs_in, pairs_at};
+ghost use Rattle.hub_state.specs.Writing.{dir_line, file_line, hex_field, file_field, pair_lines, archives_lines, replicas_lines};
+ghost use Rattle.hub_state.specs.Writing.{contents_lines, mark_lines};
 ghost use Rattle.hub_state.specs.Writing.{state_header, blob_line, blob_lines, state_files, version_of};
-ghost use Rattle.hub_state.specs.Writing.{archive_lines, joined_lines, state_text};
+ghost use Rattle.hub_state.specs.Writing.{joined_lines, state_text};
 
 use crate::blobs::{Head, head_of};
 use crate::digits::encode_into;
@@ -100,9 +100,9 @@ fn write_replicas<W: Write>(
     replicas: &BTreeMap<String, Tree>,
 ) -> Result<(), Fault>
     requires { output.old.failed ≡ false }
-    ensures ok { OnOk result (Passes (W.contents output.old.device)
+    ensures ok { OnOk result (PassesLines (W.contents output.old.device)
         (W.contents output.new.device) text.old.items text.new.items
-        (joined_lines (flat_map (replica_lines version) (by_text replicas.now.entries)))) }
+        (replicas_lines version (by_text replicas.now.entries))) }
     ensures faults { IfErr result StopsWriting }
     ensures failed { output.new.failed ≡ says is_write_failed result }
 {
@@ -120,9 +120,9 @@ fn write_archives<W: Write>(
     archives: &BTreeMap<String, BTreeMap<String, Archive>>,
 ) -> Result<(), Fault>
     requires { output.old.failed ≡ false }
-    ensures ok { OnOk result (Passes (W.contents output.old.device)
+    ensures ok { OnOk result (PassesLines (W.contents output.old.device)
         (W.contents output.new.device) text.old.items text.new.items
-        (joined_lines (flat_map archive_lines (fin.entries (pairs_in archives.now.entries))))) }
+        (archives_lines (fin.entries (pairs_in archives.now.entries)))) }
     ensures faults { IfErr result StopsWriting }
     ensures failed { output.new.failed ≡ says is_write_failed result }
 {
@@ -140,9 +140,9 @@ fn write_pairs<W: Write>(
     others: &BTreeMap<String, Archive>,
 ) -> Result<(), Fault>
     requires { output.old.failed ≡ false }
-    ensures ok { OnOk result (Passes (W.contents output.old.device)
+    ensures ok { OnOk result (PassesLines (W.contents output.old.device)
         (W.contents output.new.device) text.old.items text.new.items
-        (joined_lines (flat_map archive_lines (pairs_below first.now (by_text others.now.entries))))) }
+        (archives_lines (pairs_at first.now others.now.entries))) }
     ensures faults { IfErr result StopsWriting }
     ensures failed { output.new.failed ≡ says is_write_failed result }
     ensures ordered { IsOrdered string_cmp others.now }
@@ -162,9 +162,9 @@ fn write_tree<W: Write>(
     tree: &Tree,
 ) -> Result<(), Fault>
     requires { output.old.failed ≡ false }
-    ensures ok { OnOk result (Passes (W.contents output.old.device)
+    ensures ok { OnOk result (PassesLines (W.contents output.old.device)
         (W.contents output.new.device) text.old.items text.new.items
-        (joined_lines (flat_map (contents_lines version) (fin.entries tree.now)))) }
+        (flat_map (contents_lines version) (fin.entries tree.now))) }
     ensures faults { IfErr result StopsWriting }
     ensures failed { output.new.failed ≡ says is_write_failed result }
 {
@@ -184,9 +184,9 @@ fn write_entry<W: Write>(
     stored: Stored<'_>,
 ) -> Result<(), Fault>
     requires { output.old.failed ≡ false }
-    ensures ok { OnOk result (Passes (W.contents output.old.device)
+    ensures ok { OnOk result (PassesLines (W.contents output.old.device)
         (W.contents output.new.device) text.old.items text.new.items
-        (joined_lines (contents_lines version (path.now, stored_contents stored.entry)))) }
+        (contents_lines version (path.now, stored_contents stored.entry))) }
     ensures faults { IfErr result StopsWriting }
     ensures failed { output.new.failed ≡ says is_write_failed result }
 {

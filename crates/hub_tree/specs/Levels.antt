@@ -4,12 +4,17 @@ use Rattle.std.specs.Prelude.{Bool, true, ◌&&◌, List, [], ◌∷◌, ◌++�
 use Rattle.std.specs.FinMap as fin
 use Rattle.std.specs.FinMap.Entries.{is_sorted}
 use Rattle.hub_path.specs.Path.{Path, name_cmp}
-use Rattle.hub_tree.specs.Nodes.{Entries, replica_of}
+use Rattle.hub_tree.specs.Nodes.{Entries, kids_of, replica_of}
 use Rattle.hub_tree.specs.declared.entries.Level.{Level}
+use Rattle.hub_tree.specs.declared.node.Node.{Node}
 
 -- The entries, each after a prefix.
 abbrev pub entries_after : Path → Entries → Entries
 entries_after p es = map (λ e. (p ++ e.0, e.1)) es
+
+-- What a node holds, below a path.
+abbrev pub entries_in : Path → Node → Entries
+entries_in p node = entries_after p (fin.entries (replica_of (kids_of node)))
 
 -- The children that are left of a directory, and what they hold.
 abbrev pub level_entries : Level → Entries

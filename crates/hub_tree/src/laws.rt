@@ -1,12 +1,12 @@
 //! Laws of replicas and archives: each is the contract of a function that does nothing.
-ghost use Rattle.std.specs.Prelude.{◌≡◌, ◌<◌, ◌↔◌, ◌&&◌, ◌∷◌, ◌++◌, not, Bool, IsTrue, Some, None, true, false, List, [], length, reverse, if◌then◌else◌};
+ghost use Rattle.std.specs.Prelude.{◌≡◌, ◌<◌, ◌↔◌, ◌&&◌, ◌∷◌, ◌++◌, not, Bool, IsTrue, Some, None, false, List, [], length, if◌then◌else◌};
 ghost use Rattle.std.specs.List.{filter, list_any};
 ghost use Rattle.std.specs.Option.{option_and_then};
 ghost use Rattle.std.specs.FinMap as fin;
-ghost use Rattle.hub_path.specs.Path.{Path, path_eq, parent};
+ghost use Rattle.hub_path.specs.Path.{Path, path_eq};
 ghost use Rattle.hub_tree.specs.Below.{is_below, under};
-ghost use Rattle.hub_tree.specs.Sets.{sets, each};
-ghost use Rattle.hub_tree.specs.Tree.{Replica, Archive, IsTree, IsArchive, contents_at, old_mark_at, is_absent, is_child, is_directory, children, set_fault, with_contents, with_mark};
+ghost use Rattle.hub_tree.specs.Sets.{IfInDirectory, IfNoDirectory, Leave, ParentsPass, SameChildren, copies, emptied, folder_copies, grafted, removals, replaced, sets, with_folder};
+ghost use Rattle.hub_tree.specs.Tree.{Replica, Archive, IsTree, IsArchive, contents_at, old_mark_at, is_absent, is_child, children, set_fault, with_contents, with_mark};
 ghost use Rattle.hub_tree.specs.declared.contents.Contents.{Contents};
 ghost use Rattle.hub_tree.specs.declared.contents.Mark.{Mark};
 ghost use Rattle.hub_tree.specs.declared.contents.Contents.TheVariants as contents;
@@ -48,11 +48,7 @@ pub fn a_set_keeps_archives()
 /// What lies below a path can be removed, in descending order. All else stays.
 pub fn sets_down()
     ensures { (m : Replica) (p : Path) → IsTree m
-        → (k : Replica)
-        × (sets m (each (λ _. contents.Absent) (reverse (under m p))) ≡ Some k)
-        × IsTree k
-        × ((q : Path)
-        → contents_at k q ≡ (if is_below p q then contents.Absent else contents_at m q)) }
+        → Leave m (removals m p) (emptied m p) }
 {}
 
 /// Of what lies below a path in a replica `s`, all that passes a test `f` can be set in ascending order below the path
@@ -60,14 +56,8 @@ pub fn sets_down()
 /// else stays.
 pub fn sets_up()
     ensures { (m s : Replica) (p : Path) (f : Path → Bool) → IsTree m → IsTree s
-        → contents_at m p ≡ contents.Directory → under m p ≡ []
-        → ((x y : Path) → IsTrue (is_below p x) → IsTrue (is_below x y)
-        → is_absent (contents_at s y) ≡ false → f y ≡ true → f x ≡ true)
-        → (k : Replica)
-        × (sets m (each (contents_at s) (filter f (under s p))) ≡ Some k)
-        × IsTree k
-        × ((q : Path) → contents_at k q
-        ≡ (if is_below p q && f q then contents_at s q else contents_at m q)) }
+        → contents_at m p ≡ contents.Directory → under m p ≡ [] → ParentsPass s p f
+        → Leave m (copies s p f) (grafted m s p f) }
 {}
 
 /// Nothing is under a path exactly when each path below it is absent.
@@ -85,30 +75,16 @@ pub fn sets_go_on()
 /// What lies below a path can be removed, and then the path be set. The parent must be a directory, and the path or the
 /// new contents not absent.
 pub fn an_item_goes()
-    ensures { (m : Replica) (p : Path) (c : Contents) → IsTree m → 0 < length p
-        → is_directory (contents_at m (parent p)) ≡ true
-        → (is_absent (contents_at m p) && is_absent c) ≡ false
-        → (k : Replica)
-        × (sets m (each (λ _. contents.Absent) (reverse (under m p)) ++ (p, c) ∷ []) ≡ Some k)
-        × IsTree k
-        × ((q : Path) → contents_at k q
-        ≡ (if path_eq q p then c
-        else (if is_below p q then contents.Absent else contents_at m q))) }
+    ensures { (m : Replica) (p : Path) (c : Contents) → IsTree m
+        → IfInDirectory m p ((is_absent (contents_at m p) && is_absent c) ≡ false
+        → Leave m (removals m p ++ (p, c) ∷ []) (replaced m p c)) }
 {}
 
 /// A path that is not a directory can become one, and then receive all that passes a test below it in another replica.
 pub fn an_item_comes()
-    ensures { (m s : Replica) (p : Path) (f : Path → Bool) → IsTree m → IsTree s → 0 < length p
-        → is_directory (contents_at m (parent p)) ≡ true
-        → is_directory (contents_at m p) ≡ false
-        → ((x y : Path) → IsTrue (is_below p x) → IsTrue (is_below x y)
-        → is_absent (contents_at s y) ≡ false → f y ≡ true → f x ≡ true)
-        → (k : Replica)
-        × (sets m ((p, contents.Directory) ∷ each (contents_at s) (filter f (under s p))) ≡ Some k)
-        × IsTree k
-        × ((q : Path) → contents_at k q
-        ≡ (if is_below p q && f q then contents_at s q
-        else (if path_eq q p then contents.Directory else contents_at m q))) }
+    ensures { (m s : Replica) (p : Path) (f : Path → Bool) → IsTree m → IsTree s
+        → IfNoDirectory m p (ParentsPass s p f
+        → Leave m (folder_copies s p f) (with_folder m s p f)) }
 {}
 
 /// Sets leave a replica, with the former contents at each path that none of them names.
@@ -126,8 +102,7 @@ pub fn listings_are_by_contents()
     ensures members { (m : Replica) (d q : Path) → list_any (path_eq q) (children m d)
         ≡ (is_child d q && not (is_absent (contents_at m q))) }
     ensures alike { (m k : Replica) (d : Path) (f : Path → Bool)
-        → ((q : Path) → IsTrue (is_child d q) → f q ≡ true → contents_at m q ≡ contents_at k q)
-        → filter f (children m d) ≡ filter f (children k d) }
+        → SameChildren m k d f → filter f (children m d) ≡ filter f (children k d) }
 {}
 
 /// All that a replica has is under its top, in the order of paths.

@@ -7,14 +7,11 @@ use Rattle.hub_path.specs.declared.side.Side.{Side}
 use Rattle.hub_profile.specs.declared.bars.Bars.{Bars}
 use Rattle.hub_profile.specs.declared.partial.Partial.{Partial}
 use Rattle.hub_profile.specs.Parts.{Parts}
-use Rattle.hub_glob.specs.Glob.{matches}
+use Rattle.hub_glob.specs.Glob.{any_matches, matches}
 use Rattle.hub_unison.specs.Matching.{surely, perhaps}
 use Rattle.hub_unison.specs.UnisonReach.{is_starred}
 
--- What some of the specifications match for hubsync, or for certain, or what they may match.
-abbrev pub any_matches : List Specification → Path → Bool
-any_matches ss q = list_any (λ s. matches s q) ss
-
+-- What some of the specifications match for certain, or what they may match.
 abbrev pub any_surely : List Specification → Path → Bool
 any_surely ss q = list_any (λ s. surely s q) ss
 

@@ -115,9 +115,8 @@ fn alphabet_within_limits(
 
 /// Returns the first profile that has the name of an earlier one.
 pub(crate) fn repeated_name(profiles: &[Profile]) -> Option<usize>
-    ensures { MatchOption result ((i j : ℕ) → i < j → refused.HaveSameName profiles.now i j
-        → ⊥) (λ later. ((i : ℕ) × (i < later) × refused.HaveSameName profiles.now i later)
-        × ((i j : ℕ) → i < j → j < later → refused.HaveSameName profiles.now i j → ⊥)) }
+    ensures { MatchOption result (refused.NoNamesakes profiles.now)
+        (refused.IsFirstNamesake profiles.now) }
 {
     for later in 0..profiles.len() {
         if has_namesake_before(profiles, later) {
@@ -157,9 +156,8 @@ pub(crate) fn nested_roots(roots: &[Root]) -> Option<(usize, usize)>
 /// Returns the first root after that one such that one of the two lies within the other.
 fn nested_root_after(roots: &[Root], first: usize) -> Option<usize>
     requires { first < length roots.now }
-    ensures { MatchOption result ((n : ℕ) → first < n → refused.AreNested roots.now first n
-        → ⊥) (λ j. (first < j) × refused.AreNested roots.now first j
-        × ((n : ℕ) → first < n → n < j → refused.AreNested roots.now first n → ⊥)) }
+    ensures { MatchOption result (refused.NoneNestedAfter roots.now first)
+        (refused.IsFirstNestedAfter roots.now first) }
 {
     for second in first + 1..roots.len() {
         if is_nested(&roots[first], &roots[second]) {

@@ -27,6 +27,11 @@ put_tree S t = with_replica S t.root.now t.tree
 abbrev pub has_mark : Archive → Path → Bool
 has_mark a p = fin.contains_key a p
 
+-- The mark of the next archive at those paths of an archive that the profile reaches, or the old one.
+abbrev pub mark_taken : Parts → Archive → Archive → Archive → Path → Mark
+mark_taken P next paths old p =
+    if has_mark paths p && reach P p then old_mark_at next p else old_mark_at old p
+
 -- The mark of a pair's archive at a path.
 abbrev pub mark_in : State → Path → Path → Path → Mark
 mark_in S r s p = old_mark_at (unwrap_or (archive_at S r s) fin.empty) p

@@ -12,14 +12,14 @@ use Rattle.hub_profile.specs.declared.partial.Partial.{Partial}
 use Rattle.hub_profile.specs.declared.verb.Verb.{Verb}
 use Rattle.hub_profile.specs.declared.verb.Verb.TheVariants.{Create, Update, Delete}
 use Rattle.hub_profile.specs.Parts.{Parts, is_root_at, has_root}
-use Rattle.hub_glob.specs.Glob.{matches}
+use Rattle.hub_glob.specs.Glob.{matches, any_matches}
 use Rattle.hub_reach.specs.Reach.{reach, may, may_at, writes_at, is_open, covers}
 use Rattle.hub_text.specs.laws.Test.{list_all-not}
 use Rattle.hub_reach.specs.Safe.{IsSafe, Rule, Clash}
 use Rattle.hub_unison.specs.Matching.{Matching, IsMatching, surely, perhaps}
 use Rattle.hub_unison.specs.UnisonReach.{is_starred, lies_in, start, ignores, opens, reach_by, bars_by, may_by, writes_by, UnisonClash, IsCautious, AreCautious, IsSafeInUnison}
 use Rattle.hub_unison.specs.laws.Piece.{any-where, any-weaker}
-use Rattle.hub_unison.specs.Cautious.{any_matches, any_surely, IgnoresLess, SparesMore, BarsLess, has_star, with_patterns, with_tops, covers_value, cover}
+use Rattle.hub_unison.specs.Cautious.{any_surely, IgnoresLess, SparesMore, BarsLess, has_star, with_patterns, with_tops, covers_value, cover}
 
 -- Tests.
 pub no : false ≡ true → ⊥

@@ -8,7 +8,7 @@ use Rattle.std.proofs.lemmas.List.{length-map}
 use Rattle.std.proofs.lemmas.Option.{slice_get-map}
 use Rattle.hub_text.specs.laws.Test.{any-append, any-map}
 use Rattle.hub_path.specs.Path.{Path}
-use Rattle.hub_glob.specs.Glob.{choices, matches, by_kind, glob, no_more, pieces}
+use Rattle.hub_glob.specs.Glob.{choices, matches, by_kind, glob, no_more, pieces, any_matches}
 use Rattle.hub_glob.specs.Specification.{Specification}
 use Rattle.hub_profile.specs.declared.partial.Partial.{Partial}
 use Rattle.hub_profile.specs.declared.rule.Rule.{Rule}
@@ -16,7 +16,7 @@ use Rattle.hub_profile.specs.Facts.{are_kept}
 use Rattle.hub_unison.specs.declared.kept.Kept.{Kept}
 use Rattle.hub_unison.specs.declared.kept.Kept.TheVariants.{Nothing, Cut, Alone, Sparing}
 use Rattle.hub_profile.specs.Parts.{Parts}
-use Rattle.hub_unison.specs.Cautious.{any_matches, any_surely, cover, covers_value, has_star, with_patterns, with_tops, IgnoresLess, SparesMore, BarsLess}
+use Rattle.hub_unison.specs.Cautious.{any_surely, cover, covers_value, has_star, with_patterns, with_tops, IgnoresLess, SparesMore, BarsLess}
 use Rattle.hub_unison.specs.laws.Cautious.{lines-cautious, none-cautious, tops-cautious, no}
 use Rattle.hub_unison.specs.Kept.{own_lines, spare_lines, within, taken, fitting}
 use Rattle.hub_unison.specs.Matching.{all_simple, all_known, perhaps, starred, surely, widened}

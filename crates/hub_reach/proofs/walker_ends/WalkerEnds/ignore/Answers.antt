@@ -1,6 +1,6 @@
 use Rattle.std.proofs.Common.{◌≡◌, ◌∙◌, ◌&&◌, not, sym}
-use Rattle.hub_reach.specs.WalkerEnds.{some_match}
 use Rattle.hub_reach.proofs.walker_ends.WalkerEnds.ignore.Goals as goal
+use Rattle.hub_automaton.specs.Spots.{some_match}
 
 pub returns-then-meets : goal.returns-then-meets
 returns-then-meets c = λ ls a t e at.

@@ -14,6 +14,7 @@ use Rattle.hub_cert.specs.declared.goal.Goal.TheVariants.{Clash, Breach}
 use Rattle.hub_cert.specs.declared.goal.Place.TheVariants.{Archive}
 use Rattle.hub_search.specs.Faults.{AreFaults}
 use Rattle.hub_apart.specs.Apart.{are_put_apart, have_nested}
+use Rattle.hub_apart.specs.declared.lines.Numbers.{Numbers}
 
 -- The set of two profiles, without rules; and that of one, with rules.
 abbrev pub set_of_two : Parts → Parts → Members
@@ -58,6 +59,10 @@ AreLinesOfTwo P Q i j es =
 -- The lines of a profile alone, with the rules.
 abbrev pub AreLinesOfOne : Parts → List Rule → ℕ → List CheckFault → Type 0
 AreLinesOfOne P Rs i es = AreLinesOf (set_of_one P Rs) i i es
+
+-- The set of these profiles and rules.
+abbrev pub set_of : List Parts → List Rule → Members
+set_of Ps Rs = record { profiles = Ps; rules = Rs }
 
 -- Lines of this kind are appended.
 abbrev pub Adds : (List CheckFault → Type 0) → List CheckFault → List CheckFault → Type 0
@@ -132,3 +137,21 @@ IsRefusedApart S e =
     ⊎ ((e ≡ fault.AlphabetFault automaton.TooManyCharacters)
     × (MENTIONED_CHARACTERS < length (alphabet_of S)))
     ⊎ ((T : Members) × (IsSetOfOne S T ⊎ IsSetOfTwo S T) × IsRefused T e)
+
+-- The lines of a set of one or two profiles with these numbers are appended; those of a profile
+-- alone; those of two; and those of a profile with each of these.
+abbrev pub AddsLinesOf : Members → Numbers → List CheckFault → List CheckFault → Type 0
+AddsLinesOf S n old new = Adds (AreLinesOf S n.first n.second) old new
+
+abbrev pub AddsLinesOfOne : Parts → List Rule → ℕ → List CheckFault → List CheckFault → Type 0
+AddsLinesOfOne P Rs i old new = Adds (AreLinesOfOne P Rs i) old new
+
+abbrev pub AddsLinesOfTwo : Parts → Parts → Numbers → List CheckFault → List CheckFault → Type 0
+AddsLinesOfTwo P Q n old new = Adds (AreLinesOfTwo P Q n.first n.second) old new
+
+abbrev pub AddsLinesWithEach : List Parts → Parts → List CheckFault → List CheckFault → Type 0
+AddsLinesWithEach Ps Q old new = Adds (AreLinesWithEach Ps Q (length Ps)) old new
+
+-- The lines of a set of these profiles are appended, with the numbers that they have among all.
+abbrev pub AddsAmong : Numbers → List CheckFault → List CheckFault → List CheckFault → Type 0
+AddsAmong n found old new = new ≡ old ++ map (line_among n.first n.second) found

@@ -1,5 +1,5 @@
 //! Lines of one or two profiles, with the numbers that these have among all.
-ghost use Rattle.std.specs.Prelude.{◌≡◌, ◌++◌, map, OnOk};
+ghost use Rattle.std.specs.Prelude.{◌≡◌, OnOk};
 ghost use Rattle.hub_apart.specs.ApartLines as said;
 
 use hub_cert::{CheckFault, Goal, Place};
@@ -31,8 +31,7 @@ pub(crate) fn push_lines(
     found: Vec<CheckFault>,
     numbers: Numbers,
 ) -> Result<(), AllocError>
-    ensures { OnOk result (lines.new.items ≡ lines.old.items
-        ++ map (said.line_among numbers.first numbers.second) found.items) }
+    ensures { OnOk result (said.AddsAmong numbers found.items lines.old.items lines.new.items) }
 {
     for line in found {
         lines.push(line_among(numbers, line))?;

@@ -1,11 +1,10 @@
 //! Profiles that are searched one and two at a time.
-ghost use Rattle.std.specs.Prelude.{◌≡◌, ◌++◌, ◌∷◌, [], IfErr, IfOk, OnOk, length};
+ghost use Rattle.std.specs.Prelude.{◌≡◌, ◌++◌, ◌∷◌, [], IfErr, IfOk, OnOk};
 ghost use Rattle.hub_automaton.specs.Alphabet.{RefusesCharacters, plain};
 ghost use Rattle.hub_profile.specs.Parts.{Parts};
 ghost use Rattle.hub_cert.specs.Refused.{IsRefused};
-ghost use Rattle.hub_cert.specs.Set as of_set;
+ghost use Rattle.hub_cert.specs.Set.{OfMembers, mentioned_in};
 ghost use Rattle.hub_cert.specs.declared.fault.CheckFault.{CheckFault as Fault};
-ghost use Rattle.hub_search.specs.Faults.{AreFaults};
 ghost use Rattle.hub_apart.specs.ApartLines as said;
 
 use crate::apart::have_nested;
@@ -42,10 +41,8 @@ pub fn lines_apart(
 ) -> Result<Apart, CheckFault>
     ensures profiles { IfOk result (λ a. a.profiles ≡ profiles) }
     ensures rules { IfOk result (λ a. a.rules ≡ rules) }
-    ensures lines { IfOk result
-        (λ a. said.AreLinesApart (record { profiles = profiles; rules = rules }) a.lines) }
-    ensures refused { IfErr result
-        (said.IsRefusedApart (record { profiles = profiles; rules = rules })) }
+    ensures lines { IfOk result (λ a. said.AreLinesApart (said.set_of profiles rules) a.lines) }
+    ensures refused { IfErr result (said.IsRefusedApart (said.set_of profiles rules)) }
 {
     check_characters(alloc, profiles.as_slice(), rules.as_slice())?;
     let (profiles, rules, lines) = search_each(alloc, profiles.into_vec(), rules)?;
@@ -58,8 +55,8 @@ pub fn lines_apart(
 
 /// Returns `TooManyCharacters` if all profiles and rules together mention too many.
 fn check_characters(alloc: Global, profiles: &[Profile], rules: &[Rule]) -> Result<(), CheckFault>
-    ensures { (S : of_set.Members) → S.profiles ≡ profiles.now → S.rules ≡ rules.now
-        → IfErr result (said.IsRefusedApart S) }
+    ensures { OfMembers profiles.now rules.now
+        (λ S. IfErr result (said.IsRefusedApart S)) }
 {
     match mention_all(alloc, profiles, rules) {
         Err(AutomatonFault::TooManyCharacters) => {
@@ -72,8 +69,8 @@ fn check_characters(alloc: Global, profiles: &[Profile], rules: &[Rule]) -> Resu
 
 /// Mentions the characters of all profiles and rules, if they aren't too many.
 fn mention_all(alloc: Global, profiles: &[Profile], rules: &[Rule]) -> Result<(), AutomatonFault>
-    ensures { (S : of_set.Members) → S.profiles ≡ profiles.now → S.rules ≡ rules.now
-        → IfErr result (RefusesCharacters plain (of_set.mentioned_in S)) }
+    ensures { OfMembers profiles.now rules.now
+        (λ S. IfErr result (RefusesCharacters plain (mentioned_in S))) }
 {
     let mut alphabet = Alphabet::new(alloc)?;
     mention_each(&mut alphabet, profiles)?;
@@ -88,10 +85,9 @@ fn search_each(
 ) -> Result<(Vec<Profile>, Rules, Vec<CheckFault>), CheckFault>
     ensures profiles { IfOk result (λ r. r.0.items ≡ profiles.items) }
     ensures rules { IfOk result (λ r. r.1 ≡ rules) }
-    ensures lines { IfOk result (λ r.
-        said.AreLinesApart (record { profiles = profiles.items; rules = rules }) r.2.items) }
-    ensures refused { IfErr result
-        (said.IsRefusedApart (record { profiles = profiles.items; rules = rules })) }
+    ensures lines { IfOk result
+        (λ r. said.AreLinesApart (said.set_of profiles.items rules) r.2.items) }
+    ensures refused { IfErr result (said.IsRefusedApart (said.set_of profiles.items rules)) }
 {
     let mut lines = Vec::new(alloc);
     let mut before = Vec::new(alloc);
@@ -114,8 +110,8 @@ fn search_one(
 ) -> Result<(Profile, Rules), CheckFault>
     ensures profile { IfOk result (λ r. r.0 ≡ profile) }
     ensures rules { IfOk result (λ r. r.1 ≡ rules) }
-    ensures lines { OnOk result (said.Adds (said.AreLinesOfOne profile rules number)
-        lines.old.items lines.new.items) }
+    ensures lines { OnOk result
+        (said.AddsLinesOfOne profile rules number lines.old.items lines.new.items) }
     ensures refused { IfErr result (IsRefused (said.set_of_one profile rules)) }
 {
     let mut own = Items::new(alloc);
@@ -139,9 +135,8 @@ fn search_with_each(
     lines: &mut Vec<CheckFault>,
 ) -> Result<Vec<Profile>, CheckFault>
     ensures profiles { IfOk result (λ r. r.items ≡ before.items ++ last ∷ []) }
-    ensures lines { OnOk result (said.Adds
-        (said.AreLinesWithEach before.items last (length before.items))
-        lines.old.items lines.new.items) }
+    ensures lines { OnOk result
+        (said.AddsLinesWithEach before.items last lines.old.items lines.new.items) }
     ensures refused { IfErr result (said.IsRefusedWithEach before.items last) }
 {
     let number = before.len();
@@ -171,8 +166,7 @@ fn search_two(
     ensures first { IfOk result (λ r. r.0 ≡ first) }
     ensures second { IfOk result (λ r. r.1 ≡ second) }
     ensures lines { OnOk result
-        (said.Adds (said.AreLinesOfTwo first second numbers.first numbers.second)
-        lines.old.items lines.new.items) }
+        (said.AddsLinesOfTwo first second numbers lines.old.items lines.new.items) }
     ensures refused { IfErr result (said.IsRefusedTwo first second) }
 {
     if have_nested(&first, &second) {
@@ -209,10 +203,9 @@ fn search_set(
 ) -> Result<(Items<Profile>, Rules), CheckFault>
     ensures profiles { IfOk result (λ r. r.0 ≡ profiles) }
     ensures rules { IfOk result (λ r. r.1 ≡ rules) }
-    ensures lines { OnOk result (said.Adds (said.AreLinesOf
-        (record { profiles = profiles; rules = rules }) numbers.first numbers.second)
-        lines.old.items lines.new.items) }
-    ensures refused { IfErr result (IsRefused (record { profiles = profiles; rules = rules })) }
+    ensures lines { OnOk result
+        (said.AddsLinesOf (said.set_of profiles rules) numbers lines.old.items lines.new.items) }
+    ensures refused { IfErr result (IsRefused (said.set_of profiles rules)) }
 {
     let set = ProfileSet::new(alloc, profiles, rules)?;
     let found = faults(alloc, &set)?;

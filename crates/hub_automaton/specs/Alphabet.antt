@@ -106,3 +106,24 @@ spec_characters s = flat_map part_characters s.pattern
 -- All these characters are mentioned, but for those that never are.
 abbrev pub mentions : List ℕ → List ℕ → Bool
 mentions ms cs = list_all (λ c. is_never_mentioned c || is_mentioned ms c) cs
+
+-- The characters of each of these specifications are mentioned.
+abbrev pub MentionsEach : List ℕ → List Specification → Type 0
+MentionsEach ms specs = IsTrue (list_all (λ s. mentions ms (spec_characters s)) specs)
+
+-- A character was mentioned, or it is added and isn't NUL, LF or CR.
+abbrev pub is_mentioned_or_added : List ℕ → List ℕ → ℕ → Bool
+is_mentioned_or_added ms cs x =
+    is_mentioned ms x || (not (is_never_mentioned x) && is_mentioned cs x)
+
+-- If two characters are of this class, the claim holds.
+abbrev pub IfOfOneClass : List ℕ → ℕ → ℕ → ℕ → Type 0 → Type 0
+IfOfOneClass ms k x y C = class_of ms x ≡ Some k → class_of ms y ≡ Some k → C
+
+-- Where a character is mentioned, or never is, both or neither of two characters equal it.
+abbrev pub CompareAlike : List ℕ → ℕ → ℕ → ℕ → Type 0
+CompareAlike ms c x y = (is_never_mentioned c || is_mentioned ms c) ≡ true → (x == c) ≡ (y == c)
+
+-- The new list has what the old one has, and these characters, each in its place.
+abbrev pub Adds : List ℕ → List ℕ → List ℕ → Type 0
+Adds old new cs = new ≡ with_characters old cs

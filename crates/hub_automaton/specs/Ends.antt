@@ -1,10 +1,10 @@
 -- The last positions of choices, as masks: where they are active, the choice matches.
-use Rattle.std.specs.Prelude.{ℕ, Bool, false, not, ◌&&◌, ◌||◌, ◌==◌, nat_lt, ◌+◌, List, [], ◌∷◌, ◌++◌, map}
+use Rattle.std.specs.Prelude.{◌≡◌, ℕ, Bool, false, not, ◌&&◌, ◌||◌, ◌==◌, nat_lt, ◌+◌, List, [], ◌∷◌, ◌++◌, map}
 use Rattle.std.specs.List.{flat_map}
 use lib.Bits.{bit_and}
 use Rattle.hub_glob.specs.declared.piece.Piece.{Piece}
 use Rattle.hub_automaton.specs.declared.alternatives.Alternatives.{Alternatives}
-use Rattle.hub_automaton.specs.Spots.{is_below_kind}
+use Rattle.hub_automaton.specs.Spots.{PackedState, is_below_kind, some_match, state_after}
 use Rattle.hub_automaton.specs.Words.{packed}
 
 -- Some bit is set in both of two rows of words.
@@ -48,3 +48,10 @@ end_below ls = flat_map (λ a. end_choices (is_below_kind a.kind) a.choices) ls
 
 abbrev pub below_ends : List Alternatives → List ℕ
 below_ends ls = packed (end_below ls)
+
+-- The claim holds of whether one of the specifications in the range of a mask matches the text that
+-- leads to a state.
+abbrev pub AtEnds : PackedState → List ℕ → (Bool → Type 0) → Type 0
+AtEnds at ends C =
+    (ls : List Alternatives) (t : List ℕ) (from to : ℕ) → at ≡ state_after ls t
+    → ends ≡ ends_in ls from to → C (some_match ls t from to)

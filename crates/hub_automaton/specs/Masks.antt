@@ -48,6 +48,10 @@ mask_choices m k cs = flat_map (mask_choice m k) cs
 abbrev pub mask_all : Mask → List Alternatives → List Bool
 mask_all m ls = flat_map (λ a. mask_choices m a.kind a.choices) ls
 
+-- The mask of some specifications, in words.
+abbrev pub mask_words : Mask → List Alternatives → List ℕ
+mask_words m ls = packed (mask_all m ls)
+
 -- The masks of some specifications, with those of takers for each of these characters.
 pub record AreMasksOf (ls : List Alternatives) (characters : List ℕ) (m : SpotMasks) : Type 0 where
   pub entered : m.entries ≡ packed (mask_all mask.Entries ls)
@@ -91,3 +95,8 @@ moved_state x ls entries stars takers s =
           else s.row);
       start = x.character == 47;
     }
+
+-- The state after one more character, by the masks and the mask of the pieces that take it.
+abbrev pub moved_on : ℕ → List Alternatives → SpotMasks → List ℕ → PackedState → PackedState
+moved_on c ls m takers s =
+    moved_state (record { character = c; first = s.start }) ls m.entries m.stars takers s

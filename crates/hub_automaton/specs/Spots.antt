@@ -148,17 +148,30 @@ pub record IsTracked (characters : List ℕ) (ls : List Alternatives) (count : �
   pub counted : count ≡ spots_count ls
   pub few : count ≤ SPOTS
 
+-- One of these specifications matches the text.
+abbrev pub any_matched : List Alternatives → List ℕ → Bool
+any_matched ls t = list_any (λ a. is_matched a t) ls
+
 -- One of the choices from one number on, up to and without another one, matches the text.
 abbrev pub some_match : List Alternatives → List ℕ → ℕ → ℕ → Bool
 some_match ls t from to = list_any (λ a. is_matched a t) (take (to - from) (drop from ls))
 
--- It holds of the state after one more character of that class.
+-- For each of these specifications, whether it matches the text.
+abbrev pub each_matched : List Alternatives → List ℕ → List Bool
+each_matched ls t = map (λ a. is_matched a t) ls
+
+-- The claim holds of the state after one more character of that class.
 abbrev pub AfterCharacter : Tracked → PackedState → ℕ → (PackedState → Type 0) → Type 0
 AfterCharacter s at class C =
     (t : List ℕ) (x : ℕ) → at ≡ state_after s.alternatives t → class_of s.mentioned x ≡ Some class
     → C (state_after s.alternatives (t ++ x ∷ []))
 
--- It holds of the specifications whose choices are followed, and of a path that leads to the state.
+-- The claim holds of the choices that are followed, and of a text that leads to the state.
+abbrev pub AtText : Tracked → PackedState → (List Alternatives → List ℕ → Type 0) → Type 0
+AtText s at C = (t : List ℕ) → at ≡ state_after s.alternatives t → C s.alternatives t
+
+-- The claim holds of the specifications whose choices are followed, and of a path that leads to the
+-- state.
 abbrev pub AtPath : Tracked → PackedState → (List Specification → Path → Type 0) → Type 0
 AtPath s at C =
     (specs : List Specification) (p : Path) → s.alternatives ≡ map alternatives_of specs
@@ -173,3 +186,25 @@ abbrev pub HaveOneState : List Specification → Path → Path → Type 0
 HaveOneState specs p q =
     state_after (map alternatives_of specs) (text_of p)
     ≡ state_after (map alternatives_of specs) (text_of q)
+
+-- Two texts lead to the same state.
+abbrev pub LeadToSame : List Alternatives → List ℕ → List ℕ → Type 0
+LeadToSame ls t u = state_after ls t ≡ state_after ls u
+
+-- They do after this character is appended to both.
+abbrev pub LeadToSameWith : List Alternatives → List ℕ → List ℕ → ℕ → Type 0
+LeadToSameWith ls t u x = state_after ls (t ++ x ∷ []) ≡ state_after ls (u ++ x ∷ [])
+
+-- For each specification the same numbers of pieces match both texts, and a path above both or
+-- neither. And both or neither end where a component starts.
+abbrev pub MatchInParts : List Alternatives → List ℕ → List ℕ → Type 0
+MatchInParts ls t u =
+    (map (spec_state t) ls ≡ map (spec_state u) ls) × (starts true t ≡ starts true u)
+
+-- How many words the state after a text has.
+abbrev pub row_length : List Alternatives → List ℕ → ℕ
+row_length ls t = length (state_after ls t).row
+
+-- The characters that the choices of these specifications mention are mentioned.
+abbrev pub ChoicesAreCovered : List ℕ → List Specification → Type 0
+ChoicesAreCovered ms specs = AreCovered ms (map alternatives_of specs)

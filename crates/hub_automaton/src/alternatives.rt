@@ -1,5 +1,6 @@
 ghost use Rattle.std.specs.Prelude.{◌≡◌, ◌<◌, ◌≤◌, ◌+◌, IfOk, IfErr};
 ghost use Rattle.hub_automaton.specs.Spots.{spot_count};
+ghost use Rattle.hub_automaton.specs.declared.fault.AutomatonFault.TheVariants.{TooManySpots};
 
 use crate::fault::AutomatonFault;
 use hub_glob::{Kind, Piece};
@@ -22,7 +23,7 @@ pub(crate) fn with_spots(before: usize, choices: &[Items<Piece>]) -> Result<usiz
     requires { before ≤ SPOTS }
     ensures ok { IfOk result (λ n. n ≡ before + spot_count choices.now) }
     ensures few { IfOk result (λ n. n ≤ SPOTS) }
-    ensures err { IfErr result (λ e. (e ≡ AutomatonFault.TooManySpots)
+    ensures err { IfErr result (λ e. (e ≡ TooManySpots)
         × (SPOTS < before + spot_count choices.now)) }
 {
     let mut spots = before;

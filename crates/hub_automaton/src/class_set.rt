@@ -1,6 +1,6 @@
 //! Sets of classes.
 ghost use Rattle.std.specs.Prelude.{◌≡◌, ◌<◌, ◌≤◌, ◌||◌, ◌==◌, ◌+◌, ◌*◌, ◌/◌, ℕ, true, false, length, IfOk, MatchOption};
-ghost use Rattle.hub_automaton.specs.ClassSets.{AllBelow, Grown, HasNone, IsListed, IsLowest, IsNextClass, IsNextBelow, has, room};
+ghost use Rattle.hub_automaton.specs.ClassSets.{AllBelow, Grown, HasNone, IsListed, IsLowest, IsNextClass, IsNextBelow, has, room, HasNoneFrom};
 
 use crate::class::Class;
 use crate::words::{WORD_BITS, is_set};
@@ -85,8 +85,7 @@ impl ClassSet {
 
     /// Returns the least class in the set from that one on.
     pub fn next_from(&self, class: Class) -> Option<Class>
-        ensures { MatchOption result (HasNone self.now class (room self.now))
-            (IsNextClass self.now class) }
+        ensures { MatchOption result (HasNoneFrom self.now class) (IsNextClass self.now class) }
     {
         let first = class.number() / WORD_BITS;
         if first >= self.words.len() {
@@ -117,7 +116,7 @@ impl ClassSet {
 
     /// The least class in the set whose bit is in a word from that one on.
     fn next_in_words(&self, first: usize) -> Option<Class>
-        ensures { MatchOption result (HasNone self.now (64 * first) (room self.now))
+        ensures { MatchOption result (HasNoneFrom self.now (64 * first))
             (IsNextClass self.now (64 * first)) }
     {
         for i in first..self.words.len() {

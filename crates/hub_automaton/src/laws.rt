@@ -1,13 +1,12 @@
 //! Laws of alphabets and of the states that texts lead to: each is the contract of an empty function.
-ghost use Rattle.std.specs.Prelude.{◌≡◌, ◌↔◌, ◌<◌, ◌+◌, ◌++◌, ◌∷◌, ◌==◌, ◌||◌, ◌&&◌, not, [], length, map, ℕ, List, Some, IsTrue, true, false};
-ghost use Rattle.std.specs.List.{list_all};
+ghost use Rattle.std.specs.Prelude.{◌≡◌, ◌↔◌, ◌<◌, ◌+◌, ◌∷◌, [], length, ℕ, List, Some, IsTrue, true, false};
 ghost use Rattle.std.specs.declared.cmp.Ordering.TheVariants.{Equal};
 ghost use Rattle.hub_path.specs.Path.{Path, text_of, path_of, name_eq, path_eq, is_path};
 ghost use Rattle.hub_glob.specs.Glob.{matches, any_matches};
 ghost use Rattle.hub_glob.specs.Specification.{Specification};
-ghost use Rattle.hub_automaton.specs.Spots.{PackedState, state_after, alternatives_of, path_alternatives, is_covered, is_matched, spec_state, spots_count, starts, HaveOneState, LeadToOneState, AreCovered};
+ghost use Rattle.hub_automaton.specs.Spots.{PackedState, alternatives_of, path_alternatives, is_covered, is_matched, spots_count, HaveOneState, LeadToOneState, AreCovered, LeadToSame, LeadToSameWith, MatchInParts, row_length, each_matched, ChoicesAreCovered};
 ghost use Rattle.hub_automaton.specs.declared.alternatives.Alternatives.{Alternatives};
-ghost use Rattle.hub_automaton.specs.Alphabet.{IsAlphabet, class_of, class_count, sample, with_characters, mentions, path_characters, spec_characters, is_never_mentioned, is_mentioned, is_path_character};
+ghost use Rattle.hub_automaton.specs.Alphabet.{IsAlphabet, class_of, class_count, sample, with_characters, mentions, path_characters, is_never_mentioned, is_mentioned, is_path_character, MentionsEach, IfOfOneClass, CompareAlike, is_mentioned_or_added};
 
 use crate::spec_set::Spots;
 use std::hash::Hash;
@@ -41,8 +40,7 @@ pub fn samples_are_of_their_class()
 /// Two characters of one class are equal, or neither is mentioned. So no comparison with a mentioned character
 /// distinguishes them.
 pub fn classes_are_alike()
-    ensures { (ms : List ℕ) (x y k c : ℕ) → class_of ms x ≡ Some k → class_of ms y ≡ Some k
-        → (is_never_mentioned c || is_mentioned ms c) ≡ true → (x == c) ≡ (y == c) }
+    ensures { (ms : List ℕ) (x y k c : ℕ) → IfOfOneClass ms k x y (CompareAlike ms c x y) }
 {}
 
 /// What is added is mentioned, and what was mentioned stays so.
@@ -55,7 +53,7 @@ pub fn what_is_added_is_mentioned()
 /// Exactly those characters are mentioned that were mentioned or are added, but for NUL, LF and CR.
 pub fn nothing_else_is_mentioned()
     ensures { (ms cs : List ℕ) (x : ℕ) → is_mentioned (with_characters ms cs) x
-        ≡ (is_mentioned ms x || (not (is_never_mentioned x) && is_mentioned cs x)) }
+        ≡ is_mentioned_or_added ms cs x }
 {}
 
 /// `Spots` are equal exactly when their values are, and tie in the order exactly then. Equal ones hash alike.
@@ -70,18 +68,16 @@ pub fn spots_compare_exactly()
 /// lead to the same state.
 pub fn what_is_kept_goes_on_alike()
     ensures same { (ls : List Alternatives) (t u : List ℕ) (x : ℕ)
-        → state_after ls t ≡ state_after ls u
-        → state_after ls (t ++ x ∷ []) ≡ state_after ls (u ++ x ∷ []) }
+        → LeadToSame ls t u → LeadToSameWith ls t u x }
     ensures classes { (ms : List ℕ) (ls : List Alternatives) (t : List ℕ) (x y k : ℕ)
         → IsAlphabet ms → AreCovered ms ls
-        → class_of ms x ≡ Some k → class_of ms y ≡ Some k → LeadToOneState ls t x y }
+        → IfOfOneClass ms k x y (LeadToOneState ls t x y) }
 {}
 
 /// Two texts lead to the same state exactly when the following agree: for each specification, how many pieces of each
 /// choice match, and whether a path above matches; and whether the text ends where a component starts.
 pub fn the_same_is_kept_of_each_specification()
-    ensures { (ls : List Alternatives) (t u : List ℕ) → (state_after ls t ≡ state_after ls u)
-        ↔ ((map (spec_state t) ls ≡ map (spec_state u) ls) × (starts true t ≡ starts true u)) }
+    ensures { (ls : List Alternatives) (t u : List ℕ) → LeadToSame ls t u ↔ MatchInParts ls t u }
 {}
 
 /// If two paths lead to the same state, the same specifications match them.
@@ -92,21 +88,19 @@ pub fn what_is_kept_tells_what_matches()
 
 /// All states of one set have equally many words.
 pub fn rows_are_equally_long()
-    ensures { (ls : List Alternatives) (t u : List ℕ)
-        → length (state_after ls t).row ≡ length (state_after ls u).row }
+    ensures { (ls : List Alternatives) (t u : List ℕ) → row_length ls t ≡ row_length ls u }
 {}
 
 /// If two texts lead to the same state, each specification matches both or neither.
 pub fn what_is_kept_tells_each_match()
-    ensures { (ls : List Alternatives) (t u : List ℕ) → state_after ls t ≡ state_after ls u
-        → map (λ a. is_matched a t) ls ≡ map (λ a. is_matched a u) ls }
+    ensures { (ls : List Alternatives) (t u : List ℕ) → LeadToSame ls t u
+        → each_matched ls t ≡ each_matched ls u }
 {}
 
 /// The choices of a specification mention what it mentions.
 pub fn choices_mention_what_their_specification_does()
-    ensures { (ms : List ℕ) (specs : List Specification)
-        → IsTrue (list_all (λ s. mentions ms (spec_characters s)) specs)
-        → AreCovered ms (map alternatives_of specs) }
+    ensures { (ms : List ℕ) (specs : List Specification) → MentionsEach ms specs
+        → ChoicesAreCovered ms specs }
 {}
 
 /// The choices of a specification match the text of a path exactly when the specification matches the path.

@@ -2,6 +2,7 @@
 ghost use Rattle.std.specs.Prelude.{◌≡◌, [], ◌∷◌, IfErr, OnOk};
 ghost use Rattle.std.specs.List.{flat_map};
 ghost use Rattle.hub_automaton.specs.Alphabet as alphabet;
+ghost use Rattle.hub_automaton.specs.Alphabet.{Adds, RefusesCharacters};
 
 use crate::alphabet::MENTIONED_CHARACTERS;
 use crate::fault::AutomatonFault;
@@ -19,18 +20,18 @@ pub(crate) trait Mentioning {
     /// Puts the characters that a value mentions in their places.
     fn put_in(&self, mentioned: &mut Vec<char>) -> Result<(), AutomatonFault>
         requires { alphabet.IsAlphabet mentioned.old.items }
-        ensures ok { OnOk result (mentioned.new.items
-            ≡ alphabet.with_characters mentioned.old.items (characters self.now)) }
-        ensures err { IfErr result (alphabet.RefusesCharacters mentioned.old.items (characters self.now)) }
+        ensures ok { OnOk result
+            (Adds mentioned.old.items mentioned.new.items (characters self.now)) }
+        ensures err { IfErr result (RefusesCharacters mentioned.old.items (characters self.now)) }
         ensures alphabet { OnOk result (alphabet.IsAlphabet mentioned.new.items) };
 }
 
 /// Puts the characters of some values in their places.
 fn put_each<T: Mentioning>(mentioned: &mut Vec<char>, values: &[T]) -> Result<(), AutomatonFault>
     requires { alphabet.IsAlphabet mentioned.old.items }
-    ensures ok { OnOk result (mentioned.new.items
-        ≡ alphabet.with_characters mentioned.old.items (flat_map T.characters values.now)) }
-    ensures err { IfErr result (alphabet.RefusesCharacters mentioned.old.items
+    ensures ok { OnOk result (Adds mentioned.old.items mentioned.new.items
+        (flat_map T.characters values.now)) }
+    ensures err { IfErr result (RefusesCharacters mentioned.old.items
         (flat_map T.characters values.now)) }
     ensures alphabet { OnOk result (alphabet.IsAlphabet mentioned.new.items) }
 {
@@ -112,9 +113,8 @@ impl Mentioning for char {
 /// Puts a character in its place, unless it is there already or is left out.
 fn mention(mentioned: &mut Vec<char>, character: char) -> Result<(), AutomatonFault>
     requires { alphabet.IsAlphabet mentioned.old.items }
-    ensures ok { OnOk result (mentioned.new.items
-        ≡ alphabet.with_characters mentioned.old.items (character ∷ [])) }
-    ensures err { IfErr result (alphabet.RefusesCharacters mentioned.old.items (character ∷ [])) }
+    ensures ok { OnOk result (Adds mentioned.old.items mentioned.new.items (character ∷ [])) }
+    ensures err { IfErr result (RefusesCharacters mentioned.old.items (character ∷ [])) }
     ensures alphabet { OnOk result (alphabet.IsAlphabet mentioned.new.items) }
 {
     if is_left_out(character) {

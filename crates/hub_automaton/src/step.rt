@@ -1,6 +1,5 @@
 //! Positions of the empty text, which characters stars accept, and whether choices match by the positions of a text.
 ghost use Rattle.std.specs.Prelude.{◌≡◌, ◌+◌, ◌≤◌, ◌++◌, IfOk, OnOk};
-ghost use Rattle.std.specs.List.{flat_map};
 ghost use Rattle.hub_glob.specs.Taking.{takes};
 ghost use Rattle.hub_glob.specs.declared.piece.Piece.TheVariants.{Run};
 ghost use Rattle.hub_automaton.specs.Masks as masking;
@@ -42,8 +41,7 @@ pub(crate) fn entered_spots(
     alloc: Global,
     alternatives: &[Alternatives],
 ) -> Result<Words, AllocError>
-    ensures { IfOk result (λ ws. ws
-        ≡ packed (flat_map (λ a. stepping.entered_choices a.choices) alternatives.now)) }
+    ensures { IfOk result (λ ws. ws ≡ packed (stepping.entered_all alternatives.now)) }
 {
     let mut spots = Vec::new(alloc);
     for one in alternatives {

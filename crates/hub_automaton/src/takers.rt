@@ -1,11 +1,9 @@
 //! The masks of takers of all classes, in one pass over the positions.
-ghost use Rattle.std.specs.Prelude.{◌≡◌, ◌<◌, ◌≤◌, ◌+◌, ℕ, Bool, ◌||◌, [], ◌∷◌, length, map, IfOk};
-ghost use Rattle.hub_glob.specs.declared.path_spec.Kind.{Kind};
+ghost use Rattle.std.specs.Prelude.{◌≡◌, ◌<◌, ◌≤◌, ◌+◌, [], ◌∷◌, length, map, IfOk};
 ghost use Rattle.hub_automaton.specs.Alphabet.{IsAlphabet, class_count, first_unmentioned};
 ghost use Rattle.hub_automaton.specs.Masks as masking;
 ghost use Rattle.hub_automaton.specs.Spots.{spot_count, spots_count};
-ghost use Rattle.hub_automaton.specs.forms.Takers.{AreTaken, begun, is_among};
-ghost use Rattle.hub_automaton.specs.Words.{packed};
+ghost use Rattle.hub_automaton.specs.forms.Takers.{begun, AreCompleted, AreCompletedFor, AreSetAt, bit_after_piece};
 ghost use Rattle.hub_automaton.specs.declared.masks.Mask.TheVariants.{Takers, Common};
 
 use crate::alphabet::Alphabet;
@@ -30,7 +28,7 @@ pub(crate) fn build_takers(
     requires alphabet { IsAlphabet alphabet.now }
     requires samples { samples.now ≡ first_unmentioned alphabet.now ∷ alphabet.now }
     ensures { IfOk result (λ v. v.items
-        ≡ map (λ c. packed (masking.mask_all (Takers c) alternatives.now)) samples.now) }
+        ≡ map (λ c. masking.mask_words (Takers c) alternatives.now) samples.now) }
 {
     let mut takers = begin_takers(alloc, alternatives, samples)?;
     take_all(alternatives, alphabet, takers.as_mut_slice());
@@ -44,7 +42,7 @@ fn begin_takers(
     samples: &[char],
 ) -> Result<Vec<Words>, AllocError>
     ensures { IfOk result (λ v. v.items
-        ≡ map (λ c. packed (masking.mask_all (begun c) alternatives.now)) samples.now) }
+        ≡ map (λ c. masking.mask_words (begun c) alternatives.now) samples.now) }
 {
     let common = masked(alloc, Mask::Common, alternatives)?;
     begin_each(alloc, alternatives, &common, samples)
@@ -57,9 +55,9 @@ fn begin_each(
     common: &Words,
     samples: &[char],
 ) -> Result<Vec<Words>, AllocError>
-    requires { common.now ≡ packed (masking.mask_all Common alternatives.now) }
+    requires { common.now ≡ masking.mask_words Common alternatives.now }
     ensures { IfOk result (λ v. v.items
-        ≡ map (λ c. packed (masking.mask_all (begun c) alternatives.now)) samples.now) }
+        ≡ map (λ c. masking.mask_words (begun c) alternatives.now) samples.now) }
 {
     let mut takers = Vec::with_capacity(alloc, samples.len())?;
     for character in samples {
@@ -75,9 +73,8 @@ fn begin_taker(
     common: &Words,
     character: char,
 ) -> Result<Words, AllocError>
-    requires { common.now ≡ packed (masking.mask_all Common alternatives.now) }
-    ensures { IfOk result (λ ws. ws
-        ≡ packed (masking.mask_all (begun character) alternatives.now)) }
+    requires { common.now ≡ masking.mask_words Common alternatives.now }
+    ensures { IfOk result (λ ws. ws ≡ masking.mask_words (begun character) alternatives.now) }
 {
     if character == '/' {
         masked(alloc, Mask::Takers(character), alternatives)
@@ -91,9 +88,8 @@ fn take_all(alternatives: &[Alternatives], alphabet: &Alphabet, takers: &mut [Wo
     requires few { spots_count alternatives.now ≤ SPOTS }
     requires alphabet { IsAlphabet alphabet.now }
     requires many { length takers.old ≡ class_count alphabet.now }
-    ensures { AreTaken alphabet.now takers.old takers.new 0
-        (λ c. masking.mask_all (begun c) alternatives.now)
-        (λ c. masking.mask_all (Takers c) alternatives.now) }
+    ensures { AreCompleted alphabet.now takers.old takers.new 0
+        (λ m. masking.mask_all m alternatives.now) }
 {
     let mut place = 0;
     for one in alternatives {
@@ -112,9 +108,8 @@ fn take_choices(
     requires alphabet { IsAlphabet alphabet.now }
     requires many { length takers.old ≡ class_count alphabet.now }
     ensures after { result ≡ place + spot_count choices.now }
-    ensures taken { (kind : Kind) → AreTaken alphabet.now takers.old takers.new place
-        (λ c. masking.mask_choices (begun c) kind choices.now)
-        (λ c. masking.mask_choices (Takers c) kind choices.now) }
+    ensures taken { AreCompletedFor alphabet.now takers.old takers.new place choices.now
+        masking.mask_choices }
 {
     let mut after = place;
     for choice in choices {
@@ -129,9 +124,8 @@ fn take_choice(choice: &[Piece], place: usize, alphabet: &Alphabet, takers: &mut
     requires few { place + length choice.now < SPOTS }
     requires alphabet { IsAlphabet alphabet.now }
     requires many { length takers.old ≡ class_count alphabet.now }
-    ensures { (kind : Kind) → AreTaken alphabet.now takers.old takers.new place
-        (λ c. masking.mask_choice (begun c) kind choice.now)
-        (λ c. masking.mask_choice (Takers c) kind choice.now) }
+    ensures { AreCompletedFor alphabet.now takers.old takers.new place choice.now
+        masking.mask_choice }
 {
     for (i, piece) in choice.iter().enumerate() {
         take_piece(piece, place + 1 + i, alphabet, takers);
@@ -142,9 +136,7 @@ fn take_choice(choice: &[Piece], place: usize, alphabet: &Alphabet, takers: &mut
 fn take_piece(piece: &Piece, place: usize, alphabet: &Alphabet, takers: &mut [Words])
     requires alphabet { IsAlphabet alphabet.now }
     requires many { length takers.old ≡ class_count alphabet.now }
-    ensures { (kind : Kind) → AreTaken alphabet.now takers.old takers.new place
-        (λ c. masking.masks_piece (begun c) kind piece.now ∷ [])
-        (λ c. masking.masks_piece (Takers c) kind piece.now ∷ []) }
+    ensures { AreCompletedFor alphabet.now takers.old takers.new place piece.now bit_after_piece }
 {
     match piece {
         Piece::Lit(character) => take_character(*character, place, alphabet, takers),
@@ -157,8 +149,7 @@ fn take_piece(piece: &Piece, place: usize, alphabet: &Alphabet, takers: &mut [Wo
 fn take_set(set: &[char], place: usize, alphabet: &Alphabet, takers: &mut [Words])
     requires alphabet { IsAlphabet alphabet.now }
     requires many { length takers.old ≡ class_count alphabet.now }
-    ensures { (flag : ℕ → Bool) → AreTaken alphabet.now takers.old takers.new place
-        (λ c. flag c ∷ []) (λ c. (flag c || is_among set.now c) ∷ []) }
+    ensures { AreSetAt alphabet.now takers.old takers.new place set.now }
 {
     for character in set {
         take_character(*character, place, alphabet, takers);
@@ -169,8 +160,7 @@ fn take_set(set: &[char], place: usize, alphabet: &Alphabet, takers: &mut [Words
 fn take_character(character: char, place: usize, alphabet: &Alphabet, takers: &mut [Words])
     requires alphabet { IsAlphabet alphabet.now }
     requires many { length takers.old ≡ class_count alphabet.now }
-    ensures { (flag : ℕ → Bool) → AreTaken alphabet.now takers.old takers.new place
-        (λ c. flag c ∷ []) (λ c. (flag c || is_among (character ∷ []) c) ∷ []) }
+    ensures { AreSetAt alphabet.now takers.old takers.new place (character ∷ []) }
 {
     if character == '/' {
         return;

@@ -21,13 +21,20 @@ pub record HaveSameName (Ps : List Parts) (i j : ℕ) : Type 0 where
   pub at_second : slice_get Ps j ≡ Some second
   pub same : first.name ≡ second.name
 
+-- A profile before that one has its name; or none does.
+abbrev pub HasNamesakeBefore : List Parts → ℕ → Type 0
+HasNamesakeBefore Ps later = (i : ℕ) × (i < later) × HaveSameName Ps i later
+
+abbrev pub NoNamesakeBefore : List Parts → ℕ → Type 0
+NoNamesakeBefore Ps later = (i : ℕ) → i < later → HaveSameName Ps i later → ⊥
+
 -- No two profiles have the same name; or that one is the first that has the name of an earlier one.
 abbrev pub NoNamesakes : List Parts → Type 0
 NoNamesakes Ps = (i j : ℕ) → i < j → HaveSameName Ps i j → ⊥
 
 abbrev pub IsFirstNamesake : List Parts → ℕ → Type 0
 IsFirstNamesake Ps later =
-    ((i : ℕ) × (i < later) × HaveSameName Ps i later)
+    HasNamesakeBefore Ps later
     × ((i j : ℕ) → i < j → j < later → HaveSameName Ps i j → ⊥)
 
 -- The name of the first profile that has the name of an earlier one.
@@ -51,6 +58,10 @@ pub record AreNested (rs : List Path) (i j : ℕ) : Type 0 where
   pub at_second : slice_get rs j ≡ Some second
   pub nested : is_nested first second ≡ true
 
+-- No two of the roots are nested.
+abbrev pub NoneNested : List Path → Type 0
+NoneNested rs = (m n : ℕ) → m < n → AreNested rs m n → ⊥
+
 -- The first pair of nested roots, by its earlier root and then by its later one.
 pub record AreFirstNested (rs : List Path) (i j : ℕ) : Type 0 where
   pub before : i < j
@@ -72,11 +83,26 @@ pub record AreShownNested (rs : List Path) (r s : Path) : Type 0 where
   pub first : r ≡ are.nested.first
   pub second : s ≡ are.nested.second
 
--- A profile or a rule with too many spots.
+-- One of the profiles has too many spots, or one of the rules; or one of either does in a set.
+abbrev pub SomeProfileHasManySpots : List Parts → Type 0
+SomeProfileHasManySpots Ps =
+    (i : ℕ) × (P : Parts) × (slice_get Ps i ≡ Some P) × (SPOTS < spot_count_of P)
+
+abbrev pub SomeRuleHasManySpots : List Rule → Type 0
+SomeRuleHasManySpots Rs =
+    (k : ℕ) × (R : Rule) × (slice_get Rs k ≡ Some R) × (SPOTS < rule_spots R)
+
 abbrev pub HasManySpots : Members → Type 0
-HasManySpots S =
-    ((i : ℕ) × (P : Parts) × (slice_get S.profiles i ≡ Some P) × (SPOTS < spot_count_of P))
-    ⊎ ((k : ℕ) × (R : Rule) × (slice_get S.rules k ≡ Some R) × (SPOTS < rule_spots R))
+HasManySpots S = SomeProfileHasManySpots S.profiles ⊎ SomeRuleHasManySpots S.rules
+
+-- Memory has run out, or the spots are too many: those of a profile, or those of a rule.
+abbrev pub RefusesProfiles : List Parts → AutomatonFault → Type 0
+RefusesProfiles Ps e =
+    (e ≡ automaton.OutOfMemory) ⊎ ((e ≡ automaton.TooManySpots) × SomeProfileHasManySpots Ps)
+
+abbrev pub RefusesRules : List Rule → AutomatonFault → Type 0
+RefusesRules Rs e =
+    (e ≡ automaton.OutOfMemory) ⊎ ((e ≡ automaton.TooManySpots) × SomeRuleHasManySpots Rs)
 
 -- The mentioned characters are too many, or else the spots are.
 abbrev pub IsTooMuch : Members → AutomatonFault → Type 0

@@ -52,20 +52,30 @@ HaveOwnNames S =
     (i j : ℕ) (P Q : Parts) → slice_get S.profiles i ≡ Some P → slice_get S.profiles j ≡ Some Q
     → i ≢ j → P.name ≢ Q.name
 
--- An alphabet mentions all that they mention.
+-- An alphabet mentions all that each rule mentions; and all that a set's profiles and rules do.
+abbrev pub MentionsRules : List ℕ → List Rule → Type 0
+MentionsRules ms Rs =
+    (k : ℕ) (R : Rule) → slice_get Rs k ≡ Some R → IsTrue (mentions ms (spec_characters R.spec))
+
 pub record Mentioned (S : Members) (ms : List ℕ) : Type 0 where
   pub alphabet : IsAlphabet ms
   pub profiles : (i : ℕ) (P : Parts) → slice_get S.profiles i ≡ Some P → Mentions ms P
-  pub rules : (k : ℕ) (R : Rule) → slice_get S.rules k ≡ Some R
-      → IsTrue (mentions ms (spec_characters R.spec))
+  pub rules : MentionsRules ms S.rules
 
 -- The spots of a rule.
 abbrev pub rule_spots : Rule → ℕ
 rule_spots R = spots_count (alternatives_of R.spec ∷ [])
 
+-- Each of the profiles, or of the rules, has few enough spots for an automaton.
+abbrev pub ProfilesHaveFewSpots : List Parts → Type 0
+ProfilesHaveFewSpots Ps = (i : ℕ) (P : Parts) → slice_get Ps i ≡ Some P → spot_count_of P ≤ SPOTS
+
+abbrev pub RulesHaveFewSpots : List Rule → Type 0
+RulesHaveFewSpots Rs = (k : ℕ) (R : Rule) → slice_get Rs k ≡ Some R → rule_spots R ≤ SPOTS
+
 pub record HasFewSpots (S : Members) : Type 0 where
-  pub profiles : (i : ℕ) (P : Parts) → slice_get S.profiles i ≡ Some P → spot_count_of P ≤ SPOTS
-  pub rules : (k : ℕ) (R : Rule) → slice_get S.rules k ≡ Some R → rule_spots R ≤ SPOTS
+  pub profiles : ProfilesHaveFewSpots S.profiles
+  pub rules : RulesHaveFewSpots S.rules
 
 -- What holds of each set, and of its alphabet.
 pub record IsSet (S : Members) (ms : List ℕ) : Type 0 where
@@ -77,3 +87,16 @@ pub record IsSet (S : Members) (ms : List ℕ) : Type 0 where
   pub alphabet : ms ≡ alphabet_of S
   pub mentioned : Mentioned S ms
   pub spots : HasFewSpots S
+
+-- The claim holds of each set that has these profiles; or these profiles and rules.
+abbrev pub OfProfiles : List Parts → (Members → Type 0) → Type 0
+OfProfiles Ps C = (S : Members) → S.profiles ≡ Ps → C S
+
+abbrev pub OfMembers : List Parts → List Rule → (Members → Type 0) → Type 0
+OfMembers Ps Rs C = (S : Members) → S.profiles ≡ Ps → S.rules ≡ Rs → C S
+
+-- The claim holds of the profile and of the rule that have these numbers in the set.
+abbrev pub OfProfileAndRule : Members → ℕ → ℕ → (Parts → Rule → Type 0) → Type 0
+OfProfileAndRule S i k C =
+    (P : Parts) (R : Rule) → slice_get S.profiles i ≡ Some P → slice_get S.rules k ≡ Some R
+    → C P R

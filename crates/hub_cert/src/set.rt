@@ -1,13 +1,13 @@
 //! Profiles and rules that are checked together, and their goals.
-ghost use Rattle.std.specs.Prelude.{◌≡◌, ◌⊎◌, ◌↔◌, ◌<◌, ◌≤◌, ◌++◌, ◌∷◌, [], ◌&&◌, map, filter, IsTrue, Contains, IfOk, IfErr, OnOk, length, Some};
-ghost use Rattle.std.specs.List.{flat_map};
+ghost use Rattle.std.specs.Prelude.{◌≡◌, ◌↔◌, ◌∷◌, [], ◌&&◌, IsTrue, Contains, IfOk, IfErr, OnOk};
 ghost use Rattle.hub_cert.specs.Aim.{shares};
 ghost use Rattle.hub_reach.specs.Reach.{has_root, writes};
 ghost use Rattle.hub_cert.specs.declared.goal.Goal.TheVariants.{Clash, Breach};
 ghost use Rattle.hub_cert.specs.Set as of_set;
 ghost use Rattle.hub_cert.specs.Goals as of_goals;
 ghost use Rattle.hub_cert.specs.Refused as refused;
-ghost use Rattle.hub_cert.specs.declared.fault.CheckFault.TheVariants as fault;
+ghost use Rattle.hub_cert.specs.Set.{OfMembers, OfProfiles};
+ghost use Rattle.hub_cert.specs.Goals.{AddsGoals, breaches_by, clashes_between, clashes_by};
 
 pub(crate) mod apart;
 pub(crate) mod forbidden;
@@ -157,9 +157,8 @@ impl ProfileSet {
 
     /// Appends the clashes of that writer.
     fn push_clashes(&self, goals: &mut Vec<Goal>, writer: usize) -> Result<(), AllocError>
-        ensures { OnOk result (goals.new.items
-            ≡ goals.old.items ++ filter (of_goals.is_goal self.now) (flat_map
-            (λ o. map (Clash writer o) of_goals.places) (of_goals.numbers self.now.profiles))) }
+        ensures { OnOk result
+            (AddsGoals self.now goals.old.items goals.new.items (clashes_by self.now writer)) }
     {
         for other in 0..self.profiles.len() {
             self.push_places(goals, writer, other)?;
@@ -174,9 +173,8 @@ impl ProfileSet {
         writer: usize,
         other: usize,
     ) -> Result<(), AllocError>
-        ensures { OnOk result (goals.new.items
-            ≡ goals.old.items
-            ++ filter (of_goals.is_goal self.now) (map (Clash writer other) of_goals.places)) }
+        ensures { OnOk result
+            (AddsGoals self.now goals.old.items goals.new.items (clashes_between writer other)) }
     {
         self.push_clash(goals, writer, other, Place::Replica(Side::Left))?;
         self.push_clash(goals, writer, other, Place::Replica(Side::Right))?;
@@ -191,9 +189,8 @@ impl ProfileSet {
         other: usize,
         place: Place,
     ) -> Result<(), AllocError>
-        ensures { OnOk result (goals.new.items
-            ≡ goals.old.items
-            ++ filter (of_goals.is_goal self.now) (Clash writer other place ∷ [])) }
+        ensures { OnOk result
+            (AddsGoals self.now goals.old.items goals.new.items (Clash writer other place ∷ [])) }
     {
         self.push_goal(
             goals,
@@ -207,9 +204,8 @@ impl ProfileSet {
 
     /// Appends the breaches of that profile.
     fn push_breaches(&self, goals: &mut Vec<Goal>, profile: usize) -> Result<(), AllocError>
-        ensures { OnOk result (goals.new.items
-            ≡ goals.old.items ++ filter (of_goals.is_goal self.now)
-            (map (Breach profile) (of_goals.numbers self.now.rules))) }
+        ensures { OnOk result
+            (AddsGoals self.now goals.old.items goals.new.items (breaches_by self.now profile)) }
     {
         for rule in 0..self.rules.as_slice().len() {
             self.push_goal(goals, Goal::Breach { profile, rule })?;
@@ -219,8 +215,8 @@ impl ProfileSet {
 
     /// Appends this, if it is a goal of the set.
     fn push_goal(&self, goals: &mut Vec<Goal>, goal: Goal) -> Result<(), AllocError>
-        ensures { OnOk result (goals.new.items
-            ≡ goals.old.items ++ filter (of_goals.is_goal self.now) (goal ∷ [])) }
+        ensures { OnOk result
+            (AddsGoals self.now goals.old.items goals.new.items (goal ∷ [])) }
     {
         if self.has(goal) {
             goals.push(goal)?;
@@ -231,8 +227,8 @@ impl ProfileSet {
 
 /// Returns whether two different profiles share that place.
 fn has_clash(profiles: &[Profile], writer: usize, other: usize, place: Place) -> bool
-    ensures { (S : of_set.Members) → S.profiles ≡ profiles.now
-        → result ≡ of_goals.is_goal S (Clash writer other place) }
+    ensures { OfProfiles profiles.now
+        (λ S. result ≡ of_goals.is_goal S (Clash writer other place)) }
 {
     if writer == other {
         return false;
@@ -248,8 +244,8 @@ fn has_clash(profiles: &[Profile], writer: usize, other: usize, place: Place) ->
 
 /// Returns whether the profile may do at the rule's root what the rule forbids.
 fn has_breach(profiles: &[Profile], rules: &[Rule], profile: usize, rule: usize) -> bool
-    ensures { (S : of_set.Members) → S.profiles ≡ profiles.now → S.rules ≡ rules.now
-        → result ≡ of_goals.is_goal S (Breach profile rule) }
+    ensures { OfMembers profiles.now rules.now
+        (λ S. result ≡ of_goals.is_goal S (Breach profile rule)) }
 {
     if profile >= profiles.len() {
         return false;

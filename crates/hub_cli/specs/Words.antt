@@ -1,5 +1,5 @@
 -- What the words on the command line ask for.
-use Rattle.std.specs.Prelude.{ℕ, pos, ◌==◌, nat_eq, Bool, false, true, not, ◌&&◌, ◌||◌, if◌then◌else◌}
+use Rattle.std.specs.Prelude.{◌≡◌, ℕ, pos, ◌==◌, nat_eq, Bool, false, true, not, ◌&&◌, ◌||◌, if◌then◌else◌}
 use Rattle.std.specs.Prelude.{List, [], ◌∷◌, codes, length, map, Option, None, Some, option_map}
 use Rattle.std.specs.Prelude.{is_some, unwrap_or}
 use Rattle.std.specs.List.{ends_with, list_all}
@@ -48,6 +48,14 @@ file_option name = record (new_rule name) { long = Some name; value_names = 1 }
 abbrev pub flag : Text → Rule
 flag name = record (new_rule name) { long = Some name; action = Some SetTrue }
 
+-- the flag `--strict`
+abbrev pub strict_flag : Rule
+strict_flag = flag (codes "strict")
+
+-- a command with one more command
+abbrev pub with_app : App → App → App
+with_app app other = with_subcommand app other.top
+
 -- a command that may have `--unison`
 abbrev pub with_unison : App → App
 with_unison app = with_rule app (flag (codes "unison"))
@@ -71,7 +79,7 @@ with_files app =
 -- a command about the set, which may take its profiles, rules, state and certificates from files,
 -- and may have `--strict`
 abbrev pub set_app : Text → App
-set_app name = with_rule (with_files (new_app name)) (flag (codes "strict"))
+set_app name = with_rule (with_files (new_app name)) strict_flag
 
 -- a command with a file of a table of hosts and `--verbose`
 abbrev pub with_hosts : App → App
@@ -92,7 +100,7 @@ mend_app = with_rule (reading_app (codes "mend")) (flag (codes "bundle"))
 -- `import`, which may take its profiles and rules from files, and may have these and `--strict`
 abbrev pub import_app : App
 import_app =
-    with_hosts (with_rule (with_profiles (new_app (codes "import"))) (flag (codes "strict")))
+    with_hosts (with_rule (with_profiles (new_app (codes "import"))) strict_flag)
 
 -- `run`, which may also have `--workers N` and `--rounds`
 abbrev pub run_app : App
@@ -303,6 +311,14 @@ is_strict_of words = is_strict_in (subcommand_of hubsync_app words)
 -- whether by the words, of which the first is the program's name, the profiles are read for Unison
 unfoldable pub is_unison_of : List Text → Bool
 is_unison_of words = is_unison_in (subcommand_of hubsync_app words)
+
+-- whether `--strict` is there is the same by the words and by these rows
+abbrev pub AgreeOnStrict : List Text → Option (Text × List Row) → Type 0
+AgreeOnStrict words rows = is_strict_of words ≡ is_strict_in rows
+
+-- and whether the profiles are read for Unison
+abbrev pub AgreeOnUnison : List Text → Option (Text × List Row) → Type 0
+AgreeOnUnison words rows = is_unison_of words ≡ is_unison_in rows
 
 -- the files that words name: the operands, which for Unison may be folders, and those of options
 pub record Names : Type 0 where

@@ -2,12 +2,12 @@
 //!
 //! A `Command` is large, so it is passed on in a `Box`.
 
-ghost use Rattle.std.specs.Prelude.{◌≡◌, IfOk, Ok, codes, false};
-ghost use Rattle.clap.specs.Words.{app_of, new_app, rule_of, with_rule, with_subcommand};
+ghost use Rattle.std.specs.Prelude.{◌≡◌, IfOk, Ok, false};
+ghost use Rattle.clap.specs.Words.{app_of, new_app, rule_of, with_rule};
 ghost use Rattle.clap.specs.declared.builder.command.Command.TheViews.{out-Command as fields_of};
 ghost use Rattle.hub_cli.specs.Words as words;
 ghost use Rattle.hub_cli.specs.Words.{about_app, checker_app, clashes_app, hubsync_app, import_app, mend_app, reach_app, reading_app};
-ghost use Rattle.hub_cli.specs.Words.{run_app, set_app, top_app};
+ghost use Rattle.hub_cli.specs.Words.{run_app, set_app, top_app, with_app};
 
 use crate::help::{
     CERTIFY, CHECK, CLASHES, HUBSYNC, Help, IMPORT, LONG, MEND, REACH, ROUNDS, RUN, VERIFY,
@@ -72,7 +72,7 @@ fn with_command<'a>(
 ) -> Result<Box<Command<'a>>, AllocError>
     requires { (fields_of command.value).has_globals ≡ false }
     ensures { IfOk result (λ c. app_of c.value
-        ≡ with_subcommand (app_of top.entry.value) (app_of command.entry.value).top) }
+        ≡ with_app (app_of top.entry.value) (app_of command.entry.value)) }
 {
     boxed(
         alloc,
@@ -158,7 +158,7 @@ fn with_profiles<'a>(
 fn with_strict<'a>(alloc: Global, command: Box<Command<'a>>) -> Result<Box<Command<'a>>, AllocError>
     requires { (fields_of command.value).has_globals ≡ false }
     ensures app { IfOk result (λ c. app_of c.value
-        ≡ with_rule (app_of command.entry.value) (words.flag (codes "strict"))) }
+        ≡ with_rule (app_of command.entry.value) words.strict_flag) }
     ensures local { IfOk result (λ c. (fields_of c.value).has_globals ≡ false) }
 {
     let strict = "Exit with 1 in place of 0 if a yes may mislead";
@@ -293,7 +293,7 @@ fn with_reading<'a>(
     help: Help,
 ) -> Result<Box<Command<'a>>, AllocError>
     ensures { IfOk result (λ c. app_of c.value
-        ≡ with_subcommand (app_of top.entry.value) (reading_app name.now).top) }
+        ≡ with_app (app_of top.entry.value) (reading_app name.now)) }
 {
     with_command(alloc, top, reading_command(alloc, name, help)?)
 }
@@ -306,7 +306,7 @@ fn with_set<'a>(
     help: Help,
 ) -> Result<Box<Command<'a>>, AllocError>
     ensures { IfOk result (λ c. app_of c.value
-        ≡ with_subcommand (app_of top.entry.value) (set_app name.now).top) }
+        ≡ with_app (app_of top.entry.value) (set_app name.now)) }
 {
     with_command(alloc, top, set_command(alloc, name, help)?)
 }

@@ -7,7 +7,7 @@ ghost use Rattle.std.specs.List.{list_all};
 ghost use Rattle.clap.specs.Words.{all_of, app_of, found_of, kind_of, one_of, rows_of, subcommand_rows_of};
 ghost use Rattle.clap.specs.declared.error.kind.ErrorKind.TheVariants.{OutOfMemory};
 ghost use Rattle.hub_cli.specs.Words as words;
-ghost use Rattle.hub_cli.specs.Words.{asked_of, files_of, hubsync_app, is_strict_in, is_strict_of, is_unison_in, is_unison_of, names_in};
+ghost use Rattle.hub_cli.specs.Words.{AgreeOnStrict, AgreeOnUnison, asked_of, files_of, hubsync_app, names_in};
 ghost use Rattle.hub_cli.specs.Words.{reading_for, reading_of, request_in, request_of};
 
 use crate::app::command;
@@ -147,10 +147,10 @@ pub(crate) fn read_matches<'a, S: AsStr>(
         ≡ Some (request_of r.0)) }
     ensures files { IfOk result (λ r. files_of (map S.text words.entry.now)
         ≡ names_in (subcommand_rows_of r.1)) }
-    ensures strict { IfOk result (λ r. is_strict_of (map S.text words.entry.now)
-        ≡ is_strict_in (subcommand_rows_of r.1)) }
-    ensures unison { IfOk result (λ r. is_unison_of (map S.text words.entry.now)
-        ≡ is_unison_in (subcommand_rows_of r.1)) }
+    ensures strict { IfOk result (λ r. AgreeOnStrict (map S.text words.entry.now)
+        (subcommand_rows_of r.1)) }
+    ensures unison { IfOk result (λ r. AgreeOnUnison (map S.text words.entry.now)
+        (subcommand_rows_of r.1)) }
     ensures err { IfErr result (λ e. (kind_of e ≡ OutOfMemory)
         ⊎ (asked_of (map S.text words.entry.now) ≡ None)) }
 {
@@ -172,10 +172,10 @@ fn parse<'a, S: AsStr>(hubsync: &mut Command<'a>, words: &'a [S]) -> Result<ArgM
         ≡ request_in (subcommand_rows_of m)) }
     ensures files { IfOk result (λ m. files_of (map S.text words.entry.now)
         ≡ names_in (subcommand_rows_of m)) }
-    ensures strict { IfOk result (λ m. is_strict_of (map S.text words.entry.now)
-        ≡ is_strict_in (subcommand_rows_of m)) }
-    ensures unison { IfOk result (λ m. is_unison_of (map S.text words.entry.now)
-        ≡ is_unison_in (subcommand_rows_of m)) }
+    ensures strict { IfOk result (λ m. AgreeOnStrict (map S.text words.entry.now)
+        (subcommand_rows_of m)) }
+    ensures unison { IfOk result (λ m. AgreeOnUnison (map S.text words.entry.now)
+        (subcommand_rows_of m)) }
     ensures err { IfErr result (λ e. (kind_of e ≡ OutOfMemory)
         ⊎ (asked_of (map S.text words.entry.now) ≡ None)) }
 {

@@ -69,6 +69,11 @@ abbrev pub place_of : List ℕ → List ℕ
 place_of folder =
     if ends_with nat_eq folder (codes "/") then folder else folder ++ codes "/"
 
+-- These are the files of profiles among those that a folder lists, if that is known.
+abbrev pub HasProfileFiles : Lists → List ℕ → List (List ℕ) → Type 0
+HasProfileFiles lists folder files =
+    (names : List (List ℕ)) × HasNames lists folder names × (files ≡ profile_files names)
+
 -- The profiles of the folder of this path, by what reads give and what the folder lists. The lines
 -- of each file of a profile can be told.
 pub record AreProfiles (reads : Reads) (lists : Lists) (folder : List ℕ)

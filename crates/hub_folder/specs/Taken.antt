@@ -3,7 +3,8 @@ use Rattle.std.specs.Prelude.{◌≡◌, ◌⊎◌, ◌==◌, ℕ, List, [], ◌
 use Rattle.std.specs.Str.{NoCharPasses}
 use Rattle.hub_include.specs.Bundle.{text_of}
 use Rattle.hub_include.specs.Files.{Known}
-use Rattle.hub_include.specs.Includes.{Lines, lines_of}
+use Rattle.hub_include.specs.Includes.{IsFault, Lines, lines_of}
+use Rattle.hub_include.specs.declared.fault.LinesFault.{LinesFault}
 use Rattle.hub_include.specs.declared.fault.LinesFault.TheVariants.{Line}
 use Rattle.hub_folder.specs.Reading.{FileRead, Bytes, Missing, Reads, HasFault}
 use Rattle.hub_folder.specs.declared.fault.Untaken.{Untaken}
@@ -59,6 +60,12 @@ IsUntaken reads place (untaken.TooManyFiles path) =
     (name : List ℕ) × (string_bytes path ≡ place ++ name)
 IsUntaken reads place (untaken.Folder path fault) = ⊥
 IsUntaken reads place untaken.OutOfMemory = Unit {0}
+
+-- For this fault of the lines of a file a profile of the folder can't be told, and that is why.
+abbrev pub ShowsUntaken : Reads → List ℕ → List ℕ → LinesFault → Untaken → Type 0
+ShowsUntaken reads place name fault e =
+    (known : Known) → Agrees reads place known → IsFault (lines_of known name) fault
+    → IsUntaken reads place e
 
 -- Why the profile in the file of this path can't be told.
 pub record IsUntakenIn (reads : Reads) (path : List ℕ) (e : Untaken) : Type 0 where

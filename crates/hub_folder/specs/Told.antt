@@ -1,10 +1,13 @@
 -- Files and their lines, as code has them.
 use Rattle.std.specs.Prelude.{◌≡◌, ◌&&◌, ◌++◌, not, ℕ, Bool, List, Ok, filter, map, bytes_eq, string_bytes}
 use Rattle.std.specs.List.{All, list_any}
+use denote.Ref.{Bor}
 use Rattle.hub_include.specs.Bundle.{text_of}
 use Rattle.hub_include.specs.Files.{Known}
 use Rattle.hub_include.specs.Includes.{Lines, lines_of, of_line}
-use Rattle.hub_folder.specs.Folders.{have_file, have_root}
+use Rattle.hub_folder.specs.Folders.{AreProfiles, have_file, have_root}
+use Rattle.hub_folder.specs.Operands.{AreNamed, IsNamed}
+use Rattle.hub_folder.specs.Reading.{Lists, Reads}
 use Rattle.hub_folder.specs.declared.folder.FolderProfile.{FolderProfile}
 use Rattle.hub_folder.specs.declared.folder.Told.{Told}
 
@@ -40,3 +43,18 @@ profiles_told place all ts = map (profile_told place) (filter (is_profile_told a
 -- The path and the text of a profile.
 abbrev pub path_and_text : FolderProfile → List ℕ × List ℕ
 path_and_text p = (string_bytes p.path, p.text.items)
+
+-- The texts that are borrowed.
+abbrev pub texts_in : List (Bor (List ℕ)) → List (List ℕ)
+texts_in ts = map (λ t. t.now) ts
+
+-- The profiles that are held are those of a folder, of an operand, and of operands.
+abbrev pub HoldProfiles : Reads → Lists → List ℕ → List FolderProfile → Type 0
+HoldProfiles reads lists folder ps = AreProfiles reads lists folder (map path_and_text ps)
+
+abbrev pub HoldOperand : Reads → Lists → List ℕ → List FolderProfile → Type 0
+HoldOperand reads lists operand ps = IsNamed reads lists operand (map path_and_text ps)
+
+abbrev pub HoldNamed : Reads → Lists → List (Bor (List ℕ)) → List FolderProfile → Type 0
+HoldNamed reads lists operands ps =
+    AreNamed reads lists (texts_in operands) (map path_and_text ps)

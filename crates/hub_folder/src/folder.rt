@@ -1,15 +1,15 @@
 //! The profiles of a folder.
-ghost use Rattle.std.specs.Prelude.{◌≡◌, ℕ, List, Ok, bytes_eq, map, string_bytes, IfErr, IfOk, OnOk};
+ghost use Rattle.std.specs.Prelude.{◌≡◌, Ok, bytes_eq, map, string_bytes, IfErr, IfOk, OnOk};
 ghost use Rattle.std.specs.List.{list_any};
+ghost use Rattle.hub_folder.specs.Told.{HoldProfiles};
+ghost use Rattle.hub_folder.specs.Folders.{HasProfileFiles};
 ghost use Rattle.hub_folder.specs.Folders as folders;
-ghost use Rattle.hub_folder.specs.Folders.{AreProfiles, IsUntakenFolder};
-ghost use Rattle.hub_folder.specs.Reading.{HasNames};
+ghost use Rattle.hub_folder.specs.Folders.{IsUntakenFolder};
 ghost use Rattle.hub_folder.specs.Taken.{Agrees, IsUntaken};
 ghost use Rattle.hub_folder.specs.Told as told_as;
 ghost use Rattle.hub_folder.specs.Told.{AreTold, file_told, includes_told, lines_told, path_and_text};
-ghost use Rattle.hub_include.specs.Files.{Known, known_of};
+ghost use Rattle.hub_include.specs.Files.{known_of};
 ghost use Rattle.hub_include.specs.Includes as includes;
-ghost use Rattle.hub_include.specs.Includes.{of_line};
 
 use crate::fault::Untaken;
 use crate::origins::Origins;
@@ -49,8 +49,8 @@ pub fn profiles_in<F: FileReader>(
     reader: &F,
     folder: &str,
 ) -> Result<Vec<FolderProfile>, Untaken>
-    ensures ok { IfOk result (λ v. AreProfiles (F.reads reader.now) (F.lists reader.now) folder.now
-        (map path_and_text v.items)) }
+    ensures ok { IfOk result (λ v. HoldProfiles (F.reads reader.now) (F.lists reader.now)
+        folder.now v.items) }
     ensures err { IfErr result
         (IsUntakenFolder (F.reads reader.now) (F.lists reader.now) folder.now) }
 {
@@ -84,9 +84,8 @@ fn profile_names<F: FileReader>(
     reader: &F,
     folder: &str,
 ) -> Result<Vec<String>, Untaken>
-    ensures ok { IfOk result (λ v. (names : List (List ℕ))
-        × HasNames (F.lists reader.now) folder.now names
-        × (map string_bytes v.items ≡ folders.profile_files names)) }
+    ensures ok { IfOk result (λ v. HasProfileFiles (F.lists reader.now) folder.now
+        (map string_bytes v.items)) }
     ensures err { IfErr result
         (IsUntakenFolder (F.reads reader.now) (F.lists reader.now) folder.now) }
 {

@@ -1,8 +1,8 @@
 //! The profiles that operands name.
-ghost use Rattle.std.specs.Prelude.{◌≡◌, ◌++◌, map, IfErr, IfOk, OnOk};
+ghost use Rattle.std.specs.Prelude.{◌≡◌, ◌++◌, IfErr, IfOk, OnOk};
 ghost use Rattle.hub_folder.specs.Operands as operands_as;
-ghost use Rattle.hub_folder.specs.Operands.{AreNamed, IsNamed, IsUnnamed};
-ghost use Rattle.hub_folder.specs.Told.{path_and_text};
+ghost use Rattle.hub_folder.specs.Operands.{IsUnnamed};
+ghost use Rattle.hub_folder.specs.Told.{HoldNamed, HoldOperand, texts_in};
 
 use crate::fault::Untaken;
 use crate::folder::{FolderProfile, profiles_in};
@@ -18,10 +18,10 @@ pub fn profiles_named<F: FileReader>(
     reader: &F,
     operands: &[&str],
 ) -> Result<Vec<FolderProfile>, Untaken>
-    ensures ok { IfOk result (λ v. AreNamed (F.reads reader.now) (F.lists reader.now)
-        (map (λ o. o.now) operands.now) (map path_and_text v.items)) }
+    ensures ok { IfOk result (λ v. HoldNamed (F.reads reader.now) (F.lists reader.now)
+        operands.now v.items) }
     ensures err { IfErr result (IsUnnamed (F.reads reader.now) (F.lists reader.now)
-        (map (λ o. o.now) operands.now)) }
+        (texts_in operands.now)) }
 {
     let mut named = Vec::new(alloc);
     for operand in operands {
@@ -49,8 +49,8 @@ fn profiles_of<F: FileReader>(
     reader: &F,
     operand: &str,
 ) -> Result<Vec<FolderProfile>, Untaken>
-    ensures ok { IfOk result (λ v. IsNamed (F.reads reader.now) (F.lists reader.now) operand.now
-        (map path_and_text v.items)) }
+    ensures ok { IfOk result (λ v. HoldOperand (F.reads reader.now) (F.lists reader.now)
+        operand.now v.items) }
     ensures err { IfErr result
         (operands_as.IsFault (F.reads reader.now) (F.lists reader.now) operand.now) }
 {

@@ -1,8 +1,7 @@
 //! The profile in a file.
 ghost use Rattle.std.specs.Prelude.{◌≡◌, ◌++◌, Err, string_bytes, IfErr, IfOk};
-ghost use Rattle.hub_include.specs.Includes.{lines_of, IsFault};
-ghost use Rattle.hub_folder.specs.Taken.{Agrees, IsCut, IsProfile, IsText, IsUntaken, IsUntakenFile};
-ghost use Rattle.hub_include.specs.Files.{Known, known_of};
+ghost use Rattle.hub_folder.specs.Taken.{Agrees, IsCut, IsProfile, IsText, IsUntaken, IsUntakenFile, ShowsUntaken};
+ghost use Rattle.hub_include.specs.Files.{known_of};
 
 use crate::fault::Untaken;
 use crate::folder::{FolderProfile, profile_of};
@@ -72,9 +71,8 @@ impl<'a, F: FileReader> Place<'a, F> {
 
     /// Why the lines of a file can't be told.
     pub(crate) fn untaken(&self, name: &str, fault: LinesFault) -> Untaken
-        ensures { (known : Known) → Agrees (F.reads self.now.reader.now) self.now.path.now known
-            → IsFault (lines_of known name.now) fault
-            → IsUntaken (F.reads self.now.reader.now) self.now.path.now result }
+        ensures { ShowsUntaken (F.reads self.now.reader.now) self.now.path.now name.now fault
+            result }
     {
         match fault {
             LinesFault::Line(fault) => match self.path_of("") {

@@ -72,3 +72,8 @@ matches s p = not (length p == 0) && by_kind s.kind s.pattern p
 -- One of the specifications matches the path.
 abbrev pub any_matches : List Specification → Path → Bool
 any_matches ss p = list_any (λ s. matches s p) ss
+
+-- One of the choices of a pattern matches the text, where the second argument says whether the text
+-- begins at the start of a component.
+abbrev pub any_choice_matches : List Part → Bool → List ℕ → Bool
+any_choice_matches ps first t = list_any (λ c. pieces c no_more first t) (choices ps)

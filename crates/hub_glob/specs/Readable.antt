@@ -1,6 +1,6 @@
 -- What holds of every specification that is read: it can be written, and what is written is read as
 -- it again.
-use Rattle.std.specs.Prelude.{◌≡◌, ◌≤◌, ℕ, Bool, true, false, not, ◌&&◌, ◌||◌, ◌==◌, nat_lt, List, [], ◌∷◌}
+use Rattle.std.specs.Prelude.{◌≡◌, ◌≤◌, ℕ, Bool, true, false, not, ◌&&◌, ◌||◌, ◌==◌, nat_lt, List, [], ◌∷◌, length, Ok}
 use Rattle.std.specs.List.{AllByRecursion}
 use lib.Utf8.{scalar}
 use Rattle.hub_glob.specs.declared.piece.Piece.{Piece}
@@ -9,6 +9,8 @@ use Rattle.hub_glob.specs.declared.piece.Part.{Part}
 use Rattle.hub_glob.specs.declared.piece.Part.TheVariants.{One, Brace}
 use Rattle.hub_glob.specs.declared.piece.TheConstants.{PATTERN_CHARACTERS, PATTERN_CHOICES}
 use Rattle.hub_glob.specs.Specification.{Specification, pattern_size, choice_count, is_name_kind}
+use Rattle.hub_glob.specs.Reading.{spec_reading}
+use Rattle.hub_glob.specs.Writing.{pattern_text}
 use Rattle.hub_text.specs.Blanks.{is_blank}
 
 -- A member that is followed by a `-` and a further member is ASCII, since it is written as a range
@@ -64,3 +66,7 @@ pub record IsReadable (s : Specification) : Type 0 where
   pub start : StartAvoids (is_barred_start (is_name_kind s.kind)) s.pattern
   pub few_choices : choice_count s.pattern ≤ PATTERN_CHOICES
   pub few_pieces : pattern_size s.pattern ≤ PATTERN_CHARACTERS
+
+-- A text is read as this specification, if the pattern that is written for it isn't too long.
+abbrev pub ReadsBack : Specification → List ℕ → Type 0
+ReadsBack s t = length (pattern_text s.pattern) ≤ PATTERN_CHARACTERS → spec_reading t ≡ Ok s

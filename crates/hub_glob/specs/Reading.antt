@@ -1,5 +1,5 @@
 -- Which texts are path specifications, and the first fault of each other text.
-use Rattle.std.specs.Prelude.{◌≡◌, ℕ, Bool, true, false, not, ◌&&◌, ◌||◌, ◌==◌, ◌+◌, ◌-◌, nat_lt, nat_le, List, [], ◌∷◌, ◌++◌, length, Option, Some, None, Result, Ok, Err, if◌then◌else◌, codes, bytes_eq}
+use Rattle.std.specs.Prelude.{◌≡◌, ◌⊎◌, ℕ, Bool, true, false, not, ◌&&◌, ◌||◌, ◌==◌, ◌+◌, ◌-◌, nat_lt, nat_le, List, [], ◌∷◌, ◌++◌, length, Option, Some, None, Result, Ok, Err, if◌then◌else◌, codes, bytes_eq}
 use Rattle.std.specs.List.{list_any, range_with_len, before_first, after_first}
 use Rattle.hub_glob.specs.declared.piece.Piece.{Piece}
 use Rattle.hub_glob.specs.declared.piece.Piece.TheVariants.{Lit, Any, Run, OneOf}
@@ -130,6 +130,14 @@ signs_of p = signs p.in_name None p.tokens.now
 abbrev pub set_signs_of : Parser → List (Result Sign GlobFault)
 set_signs_of p = signs p.in_name (Some []) p.tokens.now
 
+-- The first sign that a parser had left is this one, and the others are left.
+abbrev pub TakesSign : Parser → Parser → Sign → Type 0
+TakesSign old new s = signs_of old ≡ Ok s ∷ signs_of new
+
+-- The same from after a `[`, for the set there.
+abbrev pub TakesSet : Parser → Parser → Piece → Type 0
+TakesSet old new p = set_signs_of old ≡ Ok (Means p) ∷ signs_of new
+
 -- From after a `[`, no `]` closes the set; or the tokens are a set, a `]` and the rest.
 abbrev pub IsUnclosed : Bool → List Token → Type 0
 IsUnclosed in_name ts = signs in_name (Some []) ts ≡ set_sign ts false ∷ []
@@ -141,6 +149,10 @@ IsSplit in_name ts set rest =
 -- The first sign is that fault.
 abbrev pub BeginsWithFault : GlobFault → List (Result Sign GlobFault) → Type 0
 BeginsWithFault e ss = (rest : List (Result Sign GlobFault)) × (ss ≡ Err e ∷ rest)
+
+-- The fault is the first of the signs, or out of memory.
+abbrev pub FailsAtFirst : List (Result Sign GlobFault) → GlobFault → Type 0
+FailsAtFirst ss e = (e ≡ fault.OutOfMemory) ⊎ BeginsWithFault e ss
 
 abbrev pub then_part : Part → Result (List Part) GlobFault → Result (List Part) GlobFault
 then_part p rest = rest >>= λ ps. Ok (p ∷ ps)
@@ -164,6 +176,10 @@ parts (Some (done, current)) (Ok Open ∷ ss) = Err fault.NestedBraces
 parts (Some (done, current)) (Ok Comma ∷ ss) = parts (Some (done ++ current ∷ [], [])) ss
 parts (Some (done, current)) (Ok Close ∷ ss) =
     then_part (Brace (done ++ current ∷ [])) (parts None ss)
+
+-- The parts from after a `{`.
+abbrev pub brace_parts : List (Result Sign GlobFault) → Result (List Part) GlobFault
+brace_parts ss = parts (Some ([], [])) ss
 
 -- From after a `{`, the signs are those of a brace with these choices, and of what comes after it.
 abbrev pub AreBrace : List (Result Sign GlobFault) → List (Result Sign GlobFault)

@@ -1,6 +1,6 @@
 -- A pattern is matched with a text character by character. What is kept of the text read so far is
 -- the places of the pattern, in its order, before which a match of that text may stand.
-use Rattle.std.specs.Prelude.{ℕ, Bool, true, false, not, ◌&&◌, ◌||◌, ◌==◌, List, [], ◌∷◌, ◌++◌, length, slice_index_or, if◌then◌else◌}
+use Rattle.std.specs.Prelude.{◌≡◌, ℕ, Bool, true, false, not, ◌&&◌, ◌||◌, ◌==◌, List, [], ◌∷◌, ◌++◌, length, slice_index_or, if◌then◌else◌}
 use Rattle.std.specs.List.{list_any}
 use Rattle.hub_glob.specs.declared.piece.Piece.{Piece}
 use Rattle.hub_glob.specs.declared.piece.Part.{Part}
@@ -14,6 +14,11 @@ use Rattle.hub_glob.specs.Taking.{takes, is_star}
 pub record Swept : Type 0 where
   pub live : List Bool
   pub carry : Carry
+
+-- By a sweep these places and this carry become those.
+abbrev pub SweepsTo : (Swept → Swept) → List Bool → Carry → List Bool → Carry → Type 0
+SweepsTo sweep old entry new end =
+    sweep (record { live = old; carry = entry }) ≡ record { live = new; carry = end }
 
 -- Past one piece, where `here` says whether a match of the text before the character may stand
 -- before it. A `*` that takes the character stays where it is.
@@ -104,3 +109,7 @@ is_matched_so_far ps w c = if is_stuck w then w.ended else (swept ps w c).carry.
 abbrev pub pushed_all : List Part → Standing → List ℕ → Standing
 pushed_all ps w [] = w
 pushed_all ps w (c ∷ t) = pushed_all ps (pushed ps w c) t
+
+-- Whether the text with these characters is matched, where a `/` comes next.
+abbrev pub is_matched_at_slash : List Part → Standing → List ℕ → Bool
+is_matched_at_slash ps w t = is_matched_so_far ps (pushed_all ps w t) 47

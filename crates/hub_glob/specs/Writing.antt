@@ -1,5 +1,5 @@
 -- The text of a path specification.
-use Rattle.std.specs.Prelude.{ℕ, ◌==◌, List, [], ◌∷◌, ◌++◌, map, codes, if◌then◌else◌}
+use Rattle.std.specs.Prelude.{◌≡◌, ℕ, ◌==◌, String, string_bytes, encode_utf8_all, List, [], ◌∷◌, ◌++◌, map, codes, if◌then◌else◌}
 use Rattle.std.specs.List.{flat_map, join_with_byte}
 use Rattle.hub_glob.specs.declared.piece.Piece.{Piece}
 use Rattle.hub_glob.specs.declared.piece.Piece.TheVariants.{Lit, Any, Run, OneOf}
@@ -51,3 +51,11 @@ kind_word kind.BelowPath = codes "BelowPath"
 -- The kind, a space and the pattern.
 abbrev pub spec_text : Specification → List ℕ
 spec_text s = kind_word s.kind ++ 32 ∷ pattern_text s.pattern
+
+-- The text of the specification of that kind that has these parts.
+abbrev pub text_with_kind : Kind → List Part → List ℕ
+text_with_kind k ps = kind_word k ++ 32 ∷ pattern_text ps
+
+-- The new text is the old one, followed by these characters.
+abbrev pub AppendsText : {Z : Type 0} → String Z → String Z → List ℕ → Type 0
+AppendsText old new cs = string_bytes new ≡ string_bytes old ++ encode_utf8_all cs

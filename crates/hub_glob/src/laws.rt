@@ -1,12 +1,11 @@
 //! Laws of patterns.
-ghost use Rattle.std.specs.Prelude.{◌≡◌, ◌≤◌, ℕ, Bool, true, List, Ok, length};
-ghost use Rattle.std.specs.List.{list_any};
+ghost use Rattle.std.specs.Prelude.{◌≡◌, ℕ, Bool, true, List, Ok};
 ghost use Rattle.std.specs.Str.{all_scalars};
-ghost use Rattle.hub_glob.specs.Glob.{glob, pieces, choices, no_more};
-ghost use Rattle.hub_glob.specs.Readable.{IsReadable};
+ghost use Rattle.hub_glob.specs.Glob.{glob, any_choice_matches};
+ghost use Rattle.hub_glob.specs.Readable.{IsReadable, ReadsBack};
 ghost use Rattle.hub_glob.specs.Reading.{spec_reading};
 ghost use Rattle.hub_glob.specs.Specification.{Specification};
-ghost use Rattle.hub_glob.specs.Writing.{pattern_text, spec_text};
+ghost use Rattle.hub_glob.specs.Writing.{spec_text};
 ghost use Rattle.hub_glob.specs.declared.piece.Part.{Part};
 
 use crate::path_spec::PathSpec;
@@ -16,7 +15,7 @@ use crate::piece::PATTERN_CHARACTERS;
 #[tactic(auto, using(crate::specs::laws::Choice::glob_choices))]
 pub fn choices_are_enough()
     ensures { (ps : List Part) (first : Bool) (t : List ℕ)
-        → glob ps first t ≡ list_any (λ c. pieces c no_more first t) (choices ps) }
+        → glob ps first t ≡ any_choice_matches ps first t }
 {}
 
 /// Every specification is read from its own text, if its written pattern has at most `PATTERN_CHARACTERS` characters.
@@ -24,8 +23,7 @@ pub fn choices_are_enough()
 /// A pattern may be written longer than it was read: the set `[a-c]` is written `[abc]`.
 #[tactic(auto, using(crate::proofs::Roundtrip::reading_undoes_writing))]
 pub fn reading_undoes_writing(spec: &PathSpec)
-    ensures { length (pattern_text spec.now.pattern) ≤ PATTERN_CHARACTERS
-        → spec_reading (spec_text spec.now) ≡ Ok spec.now }
+    ensures { ReadsBack spec.now (spec_text spec.now) }
 {
     spec.is_readable();
 }
@@ -33,9 +31,7 @@ pub fn reading_undoes_writing(spec: &PathSpec)
 /// The same for the values that contracts see.
 #[tactic(auto, using(crate::proofs::Roundtrip::reading_undoes_writing))]
 pub fn readable_specifications_are_read_back()
-    ensures { (s : Specification) → IsReadable s
-        → length (pattern_text s.pattern) ≤ PATTERN_CHARACTERS
-        → spec_reading (spec_text s) ≡ Ok s }
+    ensures { (s : Specification) → IsReadable s → ReadsBack s (spec_text s) }
 {}
 
 /// Each specification that a text gives is readable.

@@ -3,9 +3,9 @@ ghost use Rattle.std.specs.List.{list_any};
 ghost use Rattle.hub_path.specs.Path.{last_name, text_of, prefixes};
 ghost use Rattle.hub_glob.specs.Glob as glob;
 ghost use Rattle.hub_glob.specs.Specification.{pattern_size};
-ghost use Rattle.hub_glob.specs.Readable.{IsReadable};
+ghost use Rattle.hub_glob.specs.Readable.{IsReadable, ReadsBack};
 ghost use Rattle.hub_glob.specs.Reading.{spec_reading};
-ghost use Rattle.hub_glob.specs.Writing.{pattern_text, spec_text};
+ghost use Rattle.hub_glob.specs.Writing.{spec_text};
 
 use crate::choosing::choices_of;
 use crate::fault::GlobFault;
@@ -102,9 +102,7 @@ impl PathSpec {
     /// A member of a set that is followed by `-` and a further member is written as a range of itself (`a-a`).
     pub fn text(&self) -> Result<String, AllocError>
         ensures written { IfOk result (λ t. string_bytes t ≡ encode_utf8_all (spec_text self.now)) }
-        ensures read_back { IfOk result (λ t.
-            length (pattern_text self.now.pattern) ≤ PATTERN_CHARACTERS
-            → spec_reading (chars (string_bytes t)) ≡ Ok self.now) }
+        ensures read_back { IfOk result (λ t. ReadsBack self.now (chars (string_bytes t))) }
     {
         let alloc = *self.pattern.allocator();
         text_of(alloc, self.kind, self.pattern.as_slice())

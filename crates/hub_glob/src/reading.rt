@@ -1,9 +1,8 @@
 //! Reading path specifications.
-ghost use Rattle.std.specs.Prelude.{◌≡◌, ◌==◌, ◌⊎◌, ◌+◌, ◌-◌, ◌<◌, ◌≤◌, ◌∷◌, ◌++◌, [], length, nat_lt, Bool, true, false, Option, Some, None, Result, Ok, Err, IfOk, IfErr, IfSome, IsSome, MatchOption, chars};
+ghost use Rattle.std.specs.Prelude.{◌≡◌, ◌==◌, ◌+◌, ◌-◌, ◌<◌, ◌≤◌, ◌++◌, [], length, nat_lt, Bool, true, false, Option, Some, None, Result, Ok, Err, IfOk, IfErr, IfSome, IsSome, MatchOption, chars};
 ghost use Rattle.std.specs.List.{before_first, after_first, range_with_len};
 ghost use Rattle.hub_text.specs.Fails.{Fails};
 ghost use Rattle.hub_glob.specs.declared.fault.GlobFault.{GlobFault};
-ghost use Rattle.hub_glob.specs.declared.reading.Sign.{Sign as SignValue};
 ghost use Rattle.hub_glob.specs.Specification as specification;
 ghost use Rattle.hub_text.specs.Blanks as blanks;
 ghost use Rattle.hub_glob.specs.Reading as reading;
@@ -76,8 +75,8 @@ pub(crate) fn read_pattern(
     pattern: &str,
 ) -> Result<Items<Part>, GlobFault>
     ensures ok { IfOk result (λ ps. reading.pattern_reading kind (chars pattern.now) ≡ Ok ps) }
-    ensures err { IfErr result (λ e. (e ≡ GlobFault.OutOfMemory)
-        ⊎ (reading.pattern_reading kind (chars pattern.now) ≡ Err e)) }
+    ensures err { IfErr result (Fails GlobFault.OutOfMemory
+        (reading.pattern_reading kind (chars pattern.now))) }
 {
     if is_empty(pattern) {
         return Err(GlobFault::EmptyPattern);
@@ -117,8 +116,8 @@ fn is_name_kind(kind: Kind) -> bool
 /// The parts of a pattern.
 fn read_parts(alloc: Global, in_name: bool, pattern: &str) -> Result<Items<Part>, GlobFault>
     ensures ok { IfOk result (λ ps. reading.pattern_parts in_name (chars pattern.now) ≡ Ok ps) }
-    ensures err { IfErr result (λ e. (e ≡ GlobFault.OutOfMemory)
-        ⊎ (reading.pattern_parts in_name (chars pattern.now) ≡ Err e)) }
+    ensures err { IfErr result (Fails GlobFault.OutOfMemory
+        (reading.pattern_parts in_name (chars pattern.now))) }
 {
     let tokens = read_tokens(alloc, pattern)?;
     let mut parser = Parser {
@@ -167,8 +166,8 @@ impl Parser<'_> {
     /// The parts up to the end.
     fn parts(&mut self) -> Result<Items<Part>, GlobFault>
         ensures ok { IfOk result (λ ps. reading.parts None (reading.signs_of self.old) ≡ Ok ps) }
-        ensures err { IfErr result (λ e. (e ≡ GlobFault.OutOfMemory)
-            ⊎ (reading.parts None (reading.signs_of self.old) ≡ Err e)) }
+        ensures err { IfErr result (Fails GlobFault.OutOfMemory
+            (reading.parts None (reading.signs_of self.old))) }
     {
         let mut parts = Items::new(self.alloc);
         'signs: while let Some(sign) = self.sign()? {
@@ -187,8 +186,8 @@ impl Parser<'_> {
     fn choices(&mut self) -> Result<Items<Items<Piece>>, GlobFault>
         ensures ok { IfOk result (λ cs.
             reading.AreBrace (reading.signs_of self.old) (reading.signs_of self.new) cs) }
-        ensures err { IfErr result (λ e. (e ≡ GlobFault.OutOfMemory)
-            ⊎ (reading.parts (Some ([], [])) (reading.signs_of self.old) ≡ Err e)) }
+        ensures err { IfErr result (Fails GlobFault.OutOfMemory
+            (reading.brace_parts (reading.signs_of self.old))) }
         ensures in_name { self.new.in_name ≡ self.old.in_name }
         ensures shorter { length self.new.tokens.now ≤ length self.old.tokens.now }
     {
@@ -211,9 +210,8 @@ impl Parser<'_> {
     /// The next sign, or nothing at the end.
     fn sign(&mut self) -> Result<Option<Sign>, GlobFault>
         ensures ok { IfOk result (λ o. MatchOption o (self.old.tokens.now ≡ [])
-            (λ s. reading.signs_of self.old ≡ Ok s ∷ reading.signs_of self.new)) }
-        ensures err { IfErr result (λ e. (e ≡ GlobFault.OutOfMemory)
-            ⊎ reading.BeginsWithFault e (reading.signs_of self.old)) }
+            (reading.TakesSign self.old self.new)) }
+        ensures err { IfErr result (reading.FailsAtFirst (reading.signs_of self.old)) }
         ensures in_name { self.new.in_name ≡ self.old.in_name }
         ensures shorter { IfOk result (λ o. IsSome o
             → length self.new.tokens.now < length self.old.tokens.now) }
@@ -241,10 +239,8 @@ impl Parser<'_> {
 
     /// A set, from after its `[`.
     fn set(&mut self) -> Result<Piece, GlobFault>
-        ensures ok { IfOk result (λ p. reading.set_signs_of self.old
-            ≡ Ok (SignValue.Means p) ∷ reading.signs_of self.new) }
-        ensures err { IfErr result (λ e. (e ≡ GlobFault.OutOfMemory)
-            ⊎ reading.BeginsWithFault e (reading.set_signs_of self.old)) }
+        ensures ok { IfOk result (reading.TakesSet self.old self.new) }
+        ensures err { IfErr result (reading.FailsAtFirst (reading.set_signs_of self.old)) }
         ensures in_name { self.new.in_name ≡ self.old.in_name }
         ensures shorter { length self.new.tokens.now ≤ length self.old.tokens.now }
     {
@@ -299,8 +295,8 @@ fn is_plain(c: char, token: Token) -> bool
 /// A set, by its tokens, and whether a `]` closes it.
 fn read_set(alloc: Global, set: &[Token], closed: bool) -> Result<Piece, GlobFault>
     ensures ok { IfOk result (λ p. reading.set_piece set.now closed ≡ Ok p) }
-    ensures err { IfErr result (λ e. (e ≡ GlobFault.OutOfMemory)
-        ⊎ (reading.set_piece set.now closed ≡ Err e)) }
+    ensures err { IfErr result (Fails GlobFault.OutOfMemory
+        (reading.set_piece set.now closed)) }
 {
     if is_negated(set) {
         return Err(GlobFault::NegatedSet);
@@ -327,8 +323,8 @@ fn is_negated(set: &[Token]) -> bool
 /// The characters of a set.
 fn read_members(alloc: Global, set: &[Token]) -> Result<Vec<char>, GlobFault>
     ensures ok { IfOk result (λ v. reading.set_members set.now ≡ Ok v.items) }
-    ensures err { IfErr result (λ e. (e ≡ GlobFault.OutOfMemory)
-        ⊎ (reading.set_members set.now ≡ Err e)) }
+    ensures err { IfErr result (Fails GlobFault.OutOfMemory
+        (reading.set_members set.now)) }
 {
     let mut members = Vec::new(alloc);
     let mut i = 0;
@@ -372,8 +368,8 @@ fn push_one(set: &mut Vec<char>, token: Token) -> Result<(), GlobFault>
 fn push_range(set: &mut Vec<char>, low: Token, high: Token) -> Result<(), GlobFault>
     ensures ok { IfOk result (λ _.
         reading.Adds (reading.range_member low high) set.old.items set.new.items) }
-    ensures err { IfErr result (λ e. (e ≡ GlobFault.OutOfMemory)
-        ⊎ (reading.range_member low high ≡ Err e)) }
+    ensures err { IfErr result (Fails GlobFault.OutOfMemory
+        (reading.range_member low high)) }
 {
     let low = character(low)?;
     let high = character(high)?;

@@ -4,6 +4,7 @@ ghost use Rattle.std.specs.List.{list_any};
 ghost use Rattle.hub_glob.specs.Specification.{choices_size, pattern_size};
 ghost use Rattle.hub_glob.specs.Sweep as sweep;
 ghost use Rattle.arrayvec.specs.ArrayVec.{array_vec_len};
+ghost use Rattle.hub_glob.specs.Sweep.{SweepsTo, swept_choices, swept_parts, swept_piece, swept_pieces};
 
 use crate::piece::{NextCharacter, PATTERN_CHARACTERS, Part, Piece};
 use arrayvec::ArrayVec;
@@ -30,9 +31,8 @@ fn sweep_piece(
 ) -> Carry
     requires { array_vec_len new.old < PATTERN_CHARACTERS }
     ensures len { array_vec_len new.new ≡ array_vec_len new.old + 1 }
-    ensures swept { sweep.swept_piece next old.now piece.now
-        (record { live = new.old.items; carry = carry })
-        ≡ record { live = new.new.items; carry = result } }
+    ensures swept { SweepsTo (swept_piece next old.now piece.now)
+        new.old.items carry new.new.items result }
 {
     let here = carry.before || old.get(new.len()).copied().unwrap_or(false);
     let taken = here && piece.takes(next);
@@ -54,9 +54,8 @@ fn sweep_pieces(
 ) -> Carry
     requires { array_vec_len new.old + length pieces.now ≤ PATTERN_CHARACTERS }
     ensures len { array_vec_len new.new ≡ array_vec_len new.old + length pieces.now }
-    ensures swept { sweep.swept_pieces next old.now pieces.now
-        (record { live = new.old.items; carry = carry })
-        ≡ record { live = new.new.items; carry = result } }
+    ensures swept { SweepsTo (swept_pieces next old.now pieces.now)
+        new.old.items carry new.new.items result }
 {
     for piece in pieces {
         carry = sweep_piece(next, piece, old, new, carry);
@@ -74,9 +73,8 @@ fn sweep_choices(
 ) -> Carry
     requires { array_vec_len new.old + choices_size choices.now ≤ PATTERN_CHARACTERS }
     ensures len { array_vec_len new.new ≡ array_vec_len new.old + choices_size choices.now }
-    ensures swept { sweep.swept_choices next old.now entry choices.now
-        (record { live = new.old.items; carry = sweep.nowhere })
-        ≡ record { live = new.new.items; carry = result } }
+    ensures swept { SweepsTo (swept_choices next old.now entry choices.now)
+        new.old.items sweep.nowhere new.new.items result }
 {
     let mut carry = Carry {
         before: false,
@@ -102,9 +100,8 @@ fn sweep_parts(
 ) -> Carry
     requires { array_vec_len new.old + pattern_size parts.now ≤ PATTERN_CHARACTERS }
     ensures len { array_vec_len new.new ≡ array_vec_len new.old + pattern_size parts.now }
-    ensures swept { sweep.swept_parts next old.now parts.now
-        (record { live = new.old.items; carry = carry })
-        ≡ record { live = new.new.items; carry = result } }
+    ensures swept { SweepsTo (swept_parts next old.now parts.now)
+        new.old.items carry new.new.items result }
 {
     for part in parts {
         carry = match part {
@@ -229,8 +226,7 @@ impl Walk {
     pub(crate) fn push_name(&mut self, parts: &[Part], name: &str) -> bool
         requires { pattern_size parts.now ≤ PATTERN_CHARACTERS }
         ensures matched { result
-            ≡ sweep.is_matched_so_far parts.now
-            (sweep.pushed_all parts.now self.old (chars name.now)) 47 }
+            ≡ sweep.is_matched_at_slash parts.now self.old (chars name.now) }
         ensures pushed { self.new
             ≡ sweep.pushed_all parts.now self.old (chars name.now ++ 47 ∷ []) }
     {

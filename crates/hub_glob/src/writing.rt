@@ -1,5 +1,5 @@
 //! Writing path specifications.
-ghost use Rattle.std.specs.Prelude.{◌≡◌, ◌++◌, ◌∷◌, [], IfOk, string_bytes, encode_utf8_all};
+ghost use Rattle.std.specs.Prelude.{◌≡◌, IfOk, string_bytes, encode_utf8_all};
 ghost use Rattle.hub_glob.specs.Writing as writing;
 
 use crate::path_spec::Kind;
@@ -11,8 +11,8 @@ use std::alloc::{AllocError, Global};
 /// The text of the specification of that kind that has these parts. It reads back, if it has few enough characters (law
 /// `reading_undoes_writing`).
 pub fn text_of(alloc: Global, kind: Kind, parts: &[Part]) -> Result<String, AllocError>
-    ensures { IfOk result (λ t. string_bytes t
-        ≡ encode_utf8_all (writing.kind_word kind ++ 32 ∷ writing.pattern_text parts.now)) }
+    ensures { IfOk result
+        (λ t. string_bytes t ≡ encode_utf8_all (writing.text_with_kind kind parts.now)) }
 {
     let mut text = String::from_str(alloc, word_of(kind))?;
     text.push(' ')?;
@@ -31,8 +31,8 @@ fn word_of(kind: Kind) -> &'static str
 }
 
 fn push_parts(text: &mut String, parts: &[Part]) -> Result<(), AllocError>
-    ensures { IfOk result (λ _. string_bytes text.new
-        ≡ string_bytes text.old ++ encode_utf8_all (writing.pattern_text parts.now)) }
+    ensures { IfOk result
+        (λ _. writing.AppendsText text.old text.new (writing.pattern_text parts.now)) }
 {
     for part in parts {
         push_part(text, part)?;
@@ -41,8 +41,8 @@ fn push_parts(text: &mut String, parts: &[Part]) -> Result<(), AllocError>
 }
 
 fn push_part(text: &mut String, part: &Part) -> Result<(), AllocError>
-    ensures { IfOk result (λ _. string_bytes text.new
-        ≡ string_bytes text.old ++ encode_utf8_all (writing.pattern_part_text part.now)) }
+    ensures { IfOk result
+        (λ _. writing.AppendsText text.old text.new (writing.pattern_part_text part.now)) }
 {
     match part {
         Part::One(piece) => push_piece(text, piece),
@@ -55,8 +55,8 @@ fn push_part(text: &mut String, part: &Part) -> Result<(), AllocError>
 }
 
 fn push_choices(text: &mut String, choices: &[Items<Piece>]) -> Result<(), AllocError>
-    ensures { IfOk result (λ _. string_bytes text.new
-        ≡ string_bytes text.old ++ encode_utf8_all (writing.choices_text choices.now)) }
+    ensures { IfOk result
+        (λ _. writing.AppendsText text.old text.new (writing.choices_text choices.now)) }
 {
     for (i, choice) in choices.iter().enumerate() {
         if i > 0 {
@@ -68,8 +68,8 @@ fn push_choices(text: &mut String, choices: &[Items<Piece>]) -> Result<(), Alloc
 }
 
 fn push_pieces(text: &mut String, pieces: &[Piece]) -> Result<(), AllocError>
-    ensures { IfOk result (λ _. string_bytes text.new
-        ≡ string_bytes text.old ++ encode_utf8_all (writing.pieces_text pieces.now)) }
+    ensures { IfOk result
+        (λ _. writing.AppendsText text.old text.new (writing.pieces_text pieces.now)) }
 {
     for piece in pieces {
         push_piece(text, piece)?;
@@ -78,8 +78,8 @@ fn push_pieces(text: &mut String, pieces: &[Piece]) -> Result<(), AllocError>
 }
 
 fn push_piece(text: &mut String, piece: &Piece) -> Result<(), AllocError>
-    ensures { IfOk result (λ _. string_bytes text.new
-        ≡ string_bytes text.old ++ encode_utf8_all (writing.piece_text piece.now)) }
+    ensures { IfOk result
+        (λ _. writing.AppendsText text.old text.new (writing.piece_text piece.now)) }
 {
     match piece {
         Piece::Lit(c) => push_literal(text, *c),
@@ -96,8 +96,8 @@ fn push_piece(text: &mut String, piece: &Piece) -> Result<(), AllocError>
 /// Writes the members of a set. Where a `-` and a further member follow, a member is written as the range of itself
 /// alone, since the `-` would make a range.
 fn push_members(text: &mut String, set: &[char]) -> Result<(), AllocError>
-    ensures { IfOk result (λ _. string_bytes text.new
-        ≡ string_bytes text.old ++ encode_utf8_all (writing.members_text set.now)) }
+    ensures { IfOk result
+        (λ _. writing.AppendsText text.old text.new (writing.members_text set.now)) }
 {
     for i in 0..set.len() {
         push_literal(text, set[i])?;
@@ -111,8 +111,8 @@ fn push_members(text: &mut String, set: &[char]) -> Result<(), AllocError>
 
 /// Writes a character, with a `\` before it where it would mean something else.
 fn push_literal(text: &mut String, c: char) -> Result<(), AllocError>
-    ensures { IfOk result (λ _. string_bytes text.new
-        ≡ string_bytes text.old ++ encode_utf8_all (writing.literal c)) }
+    ensures { IfOk result
+        (λ _. writing.AppendsText text.old text.new (writing.literal c)) }
 {
     if is_special(c) {
         text.push('\\')?;

@@ -1,8 +1,7 @@
-ghost use Rattle.std.specs.Prelude.{◌≡◌, ◌↔◌, ◌<◌, [], ◌∷◌, ◌++◌, IfOk, OnOk, OnErr, IfErr, IsTrue, slice_get};
+ghost use Rattle.std.specs.Prelude.{◌≡◌, ◌↔◌, ◌<◌, [], ◌∷◌, ◌++◌, IfOk, OnOk, OnErr, IfErr, IsTrue};
 ghost use Rattle.std.specs.Vec.{vec_len, vec_capacity};
 ghost use Rattle.hub_job.specs.Machine.{Fits, is_shared};
-ghost use Rattle.hub_job.specs.History.{IsAnswerOf};
-ghost use Rattle.hub_history.specs.Book.{IsBook, entry_of, has_job, new_book, with_entry};
+ghost use Rattle.hub_history.specs.Book.{BookAnswers, IsBook, entry_of, has_job, new_book, with_entry};
 
 use hub_cert::ProfileSet;
 use hub_job::{Answer, Entry, Op, perform};
@@ -82,9 +81,7 @@ impl<'a> Book<'a> {
     /// replica refuses is an entry too. Out of memory leaves the book as it was.
     pub fn apply(&mut self, job: usize, op: Op) -> Result<Answer, AllocError>
         requires { IsTrue (has_job self.old.profiles self.old.root job) }
-        ensures answer { IfOk result (λ a.
-            IsAnswerOf self.old.root self.old.tree (entry_of job op a)
-            (slice_get self.old.profiles job)) }
+        ensures answer { IfOk result (λ a. BookAnswers self.old job op a) }
         ensures fits { IfOk result (Fits op) }
         ensures book { IfOk result (λ a. self.new ≡ with_entry self.old (entry_of job op a)) }
         ensures err { OnErr result (self.new ≡ self.old) }

@@ -1,8 +1,7 @@
-ghost use Rattle.std.specs.Prelude.{◌≡◌, ◌≢◌, ◌<◌, ◌+◌, ◌⊎◌, false, min, length, replicate, slice_get, IfOk, OnOk, OnErr, IfErr};
+ghost use Rattle.std.specs.Prelude.{◌≡◌, ◌≢◌, ◌<◌, ◌+◌, ◌⊎◌, min, length, replicate, IfOk, OnOk, OnErr, IfErr};
 ghost use Rattle.hub_job.specs.Machine.{Fits};
-ghost use Rattle.hub_job.specs.History.{IsAnswerOf};
-ghost use Rattle.hub_history.specs.Book.{IsBook, entry_of, has_job, with_entry};
-ghost use Rattle.hub_history.specs.Desk.{SomeBookAnswers, counted_by};
+ghost use Rattle.hub_history.specs.Book.{BookAnswers, IsBook, IsForeign, entry_of, with_entry};
+ghost use Rattle.hub_history.specs.Desk.{SomeBookAnswers, counted_by, desk_of};
 
 use crate::book::Book;
 use crate::gate::Gate;
@@ -129,15 +128,13 @@ fn close_in<'a>(
 ) -> Result<Book<'a>, Stranger<'a>>
     ensures book { IfOk result (λ b. b ≡ book.entry) }
     ensures all { IfOk result (λ b. length seats ≡ n) }
-    ensures counted { IfOk result (λ b. length book.entry.history
-        ≡ counted_by (record { seats = n; start = start }) seats) }
+    ensures counted { IfOk result
+        (λ b. length book.entry.history ≡ counted_by (desk_of n start) seats) }
     ensures stranger { IfErr result
         (λ s. (length seats ≢ n) ⊎ (s.entries ≢ s.counted)) }
     ensures entries { IfErr result (λ s. s.entries ≡ length book.entry.history) }
-    ensures back { IfErr result
-        (λ s. (s.seats ≡ seats) × (s.desk ≡ record { seats = n; start = start })) }
-    ensures sum { IfErr result
-        (λ s. s.counted ≡ counted_by (record { seats = n; start = start }) seats) }
+    ensures back { IfErr result (λ s. (s.seats ≡ seats) × (s.desk ≡ desk_of n start)) }
+    ensures sum { IfErr result (λ s. s.counted ≡ counted_by (desk_of n start) seats) }
 {
     let entries = book.history().len() as u128;
     let counted = start as u128 + all_steps(seats.as_slice());
@@ -160,16 +157,12 @@ fn close_in<'a>(
 /// Makes an operation of a job on a book, if the job has its root, and counts the step.
 fn step_in(book: &mut Book<'_>, seat: &mut Seat, job: usize, op: Op) -> Result<Answer, StepFault>
     ensures valid { IsBook book.old }
-    ensures answer { IfOk result (λ a.
-        IsAnswerOf book.old.root book.old.tree (entry_of job op a)
-        (slice_get book.old.profiles job)) }
+    ensures answer { IfOk result (λ a. BookAnswers book.old job op a) }
     ensures fits { IfOk result (Fits op) }
     ensures book { IfOk result (λ a. book.new ≡ with_entry book.old (entry_of job op a)) }
     ensures seat { OnOk result (seat.new ≡ min (seat.old + 1) u64.MAX) }
-    ensures foreign { has_job book.old.profiles book.old.root job ≡ false
-        → result ≡ Err StepFault.Foreign }
-    ensures err { IfErr result (λ e. (e ≡ StepFault.OutOfMemory)
-        ⊎ (has_job book.old.profiles book.old.root job ≡ false)) }
+    ensures foreign { IsForeign book.old job → result ≡ Err StepFault.Foreign }
+    ensures err { IfErr result (λ e. (e ≡ StepFault.OutOfMemory) ⊎ IsForeign book.old job) }
     ensures stays { OnErr result ((book.new ≡ book.old) × (seat.new ≡ seat.old)) }
 {
     if !book.has(job) {

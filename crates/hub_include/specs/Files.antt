@@ -1,5 +1,5 @@
 -- What is known of the files of a folder.
-use Rattle.std.specs.Prelude.{ℕ, List, Option, Some, None}
+use Rattle.std.specs.Prelude.{◌≡◌, bytes_eq, false, ℕ, List, Option, Some, None}
 use Rattle.std.specs.BTreeMap.{get_by_text}
 use denote.Ref.{Bor}
 use Rattle.hub_include.specs.declared.folder.File.{File}
@@ -27,6 +27,11 @@ find known name = found_as name (known name)
 -- What a folder knows.
 abbrev pub known_of : Folder → Known
 known_of folder name = get_by_text folder.files name
+
+-- Of each other name a folder knows what it knew.
+abbrev pub ChangesOnlyAt : Folder → Folder → List ℕ → Type 0
+ChangesOnlyAt old new name =
+    (other : List ℕ) → bytes_eq other name ≡ false → known_of new other ≡ known_of old other
 
 -- A borrowed file, and one that is found.
 abbrev pub of_file : File (Bor (List ℕ)) (Bor (List ℕ)) → Held

@@ -1,5 +1,5 @@
 -- The lines of a profile, with those of the files that it includes.
-use Rattle.std.specs.Prelude.{◌≡◌, ◌⊎◌, map, ℕ, zero, suc, ◌+◌, Bool, nat_le, List, [], ◌∷◌, ◌++◌, length, drop, Result, Ok, Err, bytes_eq, if◌then◌else◌}
+use Rattle.std.specs.Prelude.{◌≡◌, ◌⊎◌, Vec, map, ℕ, zero, suc, ◌+◌, Bool, nat_le, List, [], ◌∷◌, ◌++◌, length, drop, Result, Ok, Err, bytes_eq, if◌then◌else◌}
 use Rattle.std.specs.List.{list_any}
 use Rattle.hub_text.specs.declared.line.Line as text
 use Rattle.hub_text.specs.Lines as lines
@@ -14,7 +14,9 @@ use Rattle.hub_include.specs.declared.lines.FileLine.{FileLine}
 use Rattle.hub_include.specs.declared.lines.Walk.{Walk}
 use Rattle.hub_include.specs.declared.target.Target.{Target}
 use Rattle.hub_include.specs.declared.target.Target.TheVariants as target
-use Rattle.hub_include.specs.Files.{Held, Known, find, known_of}
+use Rattle.hub_include.specs.Files.{Held, Known, find, known_of, of_file}
+use Rattle.hub_include.specs.declared.folder.File.{File}
+use Rattle.hub_include.specs.declared.folder.Folder.{Folder}
 use Rattle.hub_include.specs.Targets.{target_of}
 use Rattle.hub_include.specs.Words.{begins_with}
 use Rattle.hub_include.specs.declared.lines.TheConstants as limit
@@ -113,14 +115,34 @@ names_of opened = map (λ o. o.now) opened
 abbrev pub follow_by : Walk → ℕ → List (Bor (List ℕ)) → Follow
 follow_by w left opened = follow (known_of w.folder.now) left (names_of opened)
 
--- It adds the lines of an open file, and a line with what this one takes in.
-abbrev pub add_file_by : Walk → ℕ → List (Bor (List ℕ)) → Held → Lines → Told
-add_file_by w left opened f done =
-    add_file (follow_by w left opened) (known_of w.folder.now) (names_of opened) f done
+-- It takes in the lines of a file by the line that includes it, it adds those of an open file, and a
+-- line with what this one takes in: all after these lines.
+abbrev pub take_by : {Z : Type 0} → Walk → ℕ → List (Bor (List ℕ))
+    → FileLine (Bor (List ℕ)) (Bor (List ℕ)) → File (Bor (List ℕ)) (Bor (List ℕ))
+    → Vec (FileLine (Bor (List ℕ)) (Bor (List ℕ))) Z → Told
+take_by w left opened at f done =
+    follow_by w left opened (of_line at) (of_file f) (of_lines done.items)
 
-abbrev pub add_line_by : Walk → ℕ → List (Bor (List ℕ)) → Lines → Placed → Told
+abbrev pub add_file_by : {Z : Type 0} → Walk → ℕ → List (Bor (List ℕ))
+    → File (Bor (List ℕ)) (Bor (List ℕ)) → Vec (FileLine (Bor (List ℕ)) (Bor (List ℕ))) Z → Told
+add_file_by w left opened f done =
+    add_file (follow_by w left opened) (known_of w.folder.now) (names_of opened) (of_file f)
+    (of_lines done.items)
+
+abbrev pub add_line_by : {Z : Type 0} → Walk → ℕ → List (Bor (List ℕ))
+    → Vec (FileLine (Bor (List ℕ)) (Bor (List ℕ))) Z → FileLine (Bor (List ℕ)) (Bor (List ℕ))
+    → Told
 add_line_by w left opened done l =
-    add_line (follow_by w left opened) (known_of w.folder.now) (names_of opened) done l
+    add_line (follow_by w left opened) (known_of w.folder.now) (names_of opened)
+    (of_lines done.items) (of_line l)
+
+-- These lines are told.
+abbrev pub Gives : {Z : Type 0} → Vec (FileLine (Bor (List ℕ)) (Bor (List ℕ))) Z → Told → Type 0
+Gives ls told = told ≡ Ok (of_lines ls.items)
+
+-- The lines of the profile in this file of a folder.
+abbrev pub lines_in : Folder → List ℕ → Held → Told
+lines_in folder name f = follow (known_of folder) limit.MOST_OPEN [] (placed name 0 []) f []
 
 -- The lines can't be told for that fault, or there was no memory.
 abbrev pub IsFault : Told → LinesFault → Type 0

@@ -9,7 +9,9 @@ use Rattle.hub_include.specs.declared.folder.Found.TheVariants as found
 use Rattle.hub_include.specs.declared.target.Target.{Target}
 use Rattle.hub_include.specs.declared.target.Target.TheVariants as target
 use Rattle.hub_include.specs.declared.word.Asked.{Asked}
-use Rattle.hub_include.specs.Files.{Held, Known, find, of_file}
+use Rattle.hub_include.specs.Files.{Held, Known, find, known_of, of_file}
+use Rattle.hub_include.specs.Asking.{of_bytes}
+use Rattle.hub_include.specs.declared.folder.Folder.{Folder}
 use Rattle.hub_include.specs.Words.{asked_by, name_in}
 
 -- A file that is found is taken, and of one that nobody looked for the name is told. `absent` is
@@ -27,11 +29,14 @@ absent a = if a.may_be_missing then target.Nothing else target.Wrong NoFile
 abbrev pub with_ending : List ℕ → List ℕ
 with_ending name = name ++ codes ".prf"
 
+-- What is taken by that name.
+abbrev pub taken_longer : Known → Asked (List ℕ) → List ℕ → Target Held
+taken_longer known a name = taken (absent a) (with_ending name) (find known (with_ending name))
+
 -- What is taken if there is no file of the name itself.
 abbrev pub taken_with_ending : Known → Asked (List ℕ) → List ℕ → Target Held
 taken_with_ending known a name =
-    if a.has_ending then taken (absent a) (with_ending name) (find known (with_ending name))
-    else absent a
+    if a.has_ending then taken_longer known a name else absent a
 
 abbrev pub taken_by_name : Known → Asked (List ℕ) → Option (List ℕ) → Target Held
 taken_by_name known a None = target.Wrong BadLine
@@ -44,6 +49,13 @@ taken_if_asked known (Some a) = taken_by_name known a (name_in a.names)
 -- What a line takes in. All names are below the one folder, also in a file of a sub-folder.
 abbrev pub target_of : Known → List ℕ → Target Held
 target_of known line = taken_if_asked known (asked_by (without_last_cr line))
+
+-- The same of a folder, and of a borrowed line that asks for it.
+abbrev pub taken_for : Folder → Asked (Bor (List ℕ)) → List ℕ → Target Held
+taken_for folder a name = taken_by_name (known_of folder) (of_bytes a) (Some name)
+
+abbrev pub taken_longer_for : Folder → Asked (Bor (List ℕ)) → List ℕ → Target Held
+taken_longer_for folder a name = taken_longer (known_of folder) (of_bytes a) name
 
 -- A borrowed target.
 abbrev pub of_target : Target (File (Bor (List ℕ)) (Bor (List ℕ))) → Target Held

@@ -1,5 +1,5 @@
 //! What is known of the files of a folder.
-ghost use Rattle.std.specs.Prelude.{◌≡◌, ℕ, List, false, OnOk, None, Some, bytes_eq, string_bytes};
+ghost use Rattle.std.specs.Prelude.{◌≡◌, ℕ, List, OnOk, None, Some, string_bytes};
 ghost use Rattle.hub_include.specs.Files as files;
 
 use hub_text::Items;
@@ -47,8 +47,7 @@ impl Folder {
     /// Notes the bytes of a file, or that there is none of this name.
     pub fn put(&mut self, name: String, bytes: Option<Items<u8>>) -> Result<(), AllocError>
         ensures put { OnOk result (files.known_of self.new (string_bytes name) ≡ Some bytes) }
-        ensures others { OnOk result ((other : List ℕ) → bytes_eq other (string_bytes name) ≡ false
-            → files.known_of self.new other ≡ files.known_of self.old other) }
+        ensures others { OnOk result (files.ChangesOnlyAt self.old self.new (string_bytes name)) }
     {
         match self.files.insert(name, bytes) {
             Ok(_) => Ok(()),

@@ -3,7 +3,7 @@ ghost use Rattle.std.specs.Prelude.{◌≡◌, ◌⊎◌, ◌+◌, [], map, Ok, 
 ghost use Rattle.std.specs.List.{list_any};
 ghost use Rattle.hub_include.specs.Files.{known_of, of_file};
 ghost use Rattle.hub_include.specs.Includes as includes;
-ghost use Rattle.hub_include.specs.Includes.{of_line, of_lines};
+ghost use Rattle.hub_include.specs.Includes.{Gives, IsFault, add_file_by, add_line_by, lines_in, of_line, of_lines, take_by};
 ghost use Rattle.hub_include.specs.declared.fault.LinesFault.TheVariants.{OutOfMemory};
 
 use crate::fault::{LineFault, LinesFault, Why};
@@ -52,8 +52,7 @@ pub fn lines_of<'a>(
 ) -> Result<Vec<FileLine<&'a str, &'a [u8]>>, LinesFault>
     ensures ok { IfOk result
         (λ v. includes.lines_of (known_of folder.now) name.now ≡ Ok (map of_line v.items)) }
-    ensures err { IfErr result
-        (includes.IsFault (includes.lines_of (known_of folder.now) name.now)) }
+    ensures err { IfErr result (IsFault (includes.lines_of (known_of folder.now) name.now)) }
 {
     match folder.find(name) {
         Found::There(file) => lines_of_file(alloc, folder, name, file),
@@ -69,10 +68,9 @@ fn lines_of_file<'a>(
     name: &'a str,
     file: HeldFile<'a>,
 ) -> Result<Vec<HeldLine<'a>>, LinesFault>
-    ensures ok { IfOk result (λ v. includes.follow (known_of folder.now) MOST_OPEN []
-        (includes.placed name.now 0 []) (of_file file.entry) [] ≡ Ok (of_lines v.items)) }
-    ensures err { IfErr result (includes.IsFault (includes.follow (known_of folder.now) MOST_OPEN []
-        (includes.placed name.now 0 []) (of_file file.entry) [])) }
+    ensures ok { IfOk result (λ v. lines_in folder.now name.now (of_file file.entry)
+        ≡ Ok (of_lines v.items)) }
+    ensures err { IfErr result (IsFault (lines_in folder.now name.now (of_file file.entry))) }
 {
     let mut lines = Vec::new(alloc);
     let at = FileLine {
@@ -96,10 +94,10 @@ impl<'a> Walk<'a> {
         file: HeldFile<'a>,
         left: usize,
     ) -> Result<(), LinesFault>
-        ensures ok { OnOk result (includes.follow_by self.now left opened.now (of_line at.entry)
-            (of_file file.entry) (of_lines lines.old.items) ≡ Ok (of_lines lines.new.items)) }
-        ensures err { IfErr result (includes.IsFault (includes.follow_by self.now left opened.now
-            (of_line at.entry) (of_file file.entry) (of_lines lines.old.items))) }
+        ensures ok { OnOk result (Gives lines.new
+            (take_by self.now left opened.now at.entry file.entry lines.old)) }
+        ensures err { IfErr result (IsFault
+            (take_by self.now left opened.now at.entry file.entry lines.old)) }
     {
         if left == 0 {
             return Err(fault_at(self.alloc, at, Why::TooDeep));
@@ -118,10 +116,10 @@ impl<'a> Walk<'a> {
         file: HeldFile<'a>,
         left: usize,
     ) -> Result<(), LinesFault>
-        ensures ok { OnOk result (includes.add_file_by self.now left opened.now
-            (of_file file.entry) (of_lines lines.old.items) ≡ Ok (of_lines lines.new.items)) }
-        ensures err { IfErr result (includes.IsFault (includes.add_file_by self.now left opened.now
-            (of_file file.entry) (of_lines lines.old.items))) }
+        ensures ok { OnOk result (Gives lines.new
+            (add_file_by self.now left opened.now file.entry lines.old)) }
+        ensures err { IfErr result (IsFault
+            (add_file_by self.now left opened.now file.entry lines.old)) }
     {
         let mut rest = Lines::new(without_mark(file.bytes));
         let mut number = 1;
@@ -146,10 +144,10 @@ impl<'a> Walk<'a> {
         at: HeldLine<'a>,
         left: usize,
     ) -> Result<(), LinesFault>
-        ensures ok { OnOk result (includes.add_line_by self.now left opened.now
-            (of_lines lines.old.items) (of_line at.entry) ≡ Ok (of_lines lines.new.items)) }
-        ensures err { IfErr result (includes.IsFault (includes.add_line_by self.now left opened.now
-            (of_lines lines.old.items) (of_line at.entry))) }
+        ensures ok { OnOk result (Gives lines.new
+            (add_line_by self.now left opened.now lines.old at.entry)) }
+        ensures err { IfErr result (IsFault
+            (add_line_by self.now left opened.now lines.old at.entry)) }
     {
         if lines.len() >= MOST_LINES {
             return Err(fault_at(self.alloc, at, Why::TooLong));

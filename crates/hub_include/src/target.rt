@@ -1,8 +1,9 @@
 //! What a line takes in.
 ghost use Rattle.std.specs.Prelude.{◌≡◌, IfOk, Some, string_bytes};
 ghost use Rattle.hub_include.specs.Asking.{of_bytes};
-ghost use Rattle.hub_include.specs.Files.{find, known_of, of_found};
+ghost use Rattle.hub_include.specs.Files.{known_of};
 ghost use Rattle.hub_include.specs.Targets as targets;
+ghost use Rattle.hub_include.specs.Targets.{of_target};
 ghost use Rattle.hub_include.specs.declared.target.Target.TheVariants as target;
 
 use crate::fault::Why;
@@ -36,8 +37,7 @@ pub(crate) fn target_of<'a>(
     folder: &'a Folder,
     line: &[u8],
 ) -> Result<Target<HeldFile<'a>>, AllocError>
-    ensures { IfOk result
-        (λ t. targets.of_target t ≡ targets.target_of (known_of folder.now) line.now) }
+    ensures { IfOk result (λ t. of_target t ≡ targets.target_of (known_of folder.now) line.now) }
 {
     let Some(asked) = asked_by(without_last_cr(line)) else {
         return Ok(Target::Nothing);
@@ -55,8 +55,8 @@ fn taken_by_name<'a>(
     asked: Asked<&[u8]>,
     name: String,
 ) -> Result<Target<HeldFile<'a>>, AllocError>
-    ensures { IfOk result (λ t. targets.of_target t
-        ≡ targets.taken_by_name (known_of folder.now) (of_bytes asked.entry) (Some (string_bytes name))) }
+    ensures { IfOk result (λ t. of_target t
+        ≡ targets.taken_for folder.now asked.entry (string_bytes name)) }
 {
     match folder.find(name.as_str()) {
         Found::There(file) => Ok(Target::Taken(file)),
@@ -73,9 +73,8 @@ fn taken_with_ending<'a>(
     asked: Asked<&[u8]>,
     name: &str,
 ) -> Result<Target<HeldFile<'a>>, AllocError>
-    ensures { IfOk result (λ t. targets.of_target t
-        ≡ targets.taken (targets.absent (of_bytes asked.entry)) (targets.with_ending name.now)
-        (find (known_of folder.now) (targets.with_ending name.now))) }
+    ensures { IfOk result (λ t. of_target t
+        ≡ targets.taken_longer_for folder.now asked.entry name.now) }
 {
     let mut longer = String::from_str(alloc, name)?;
     longer.push_str(".prf")?;
@@ -88,14 +87,14 @@ fn taken_with_ending<'a>(
 
 /// Nobody has looked for this name.
 fn unread<'a>(name: String) -> Target<HeldFile<'a>>
-    ensures { targets.of_target result ≡ target.Unread (string_bytes name) }
+    ensures { of_target result ≡ target.Unread (string_bytes name) }
 {
     Target::Unread(Items::from_vec(name.into_bytes()))
 }
 
 /// There is no file.
 fn absent<'a>(asked: Asked<&[u8]>) -> Target<HeldFile<'a>>
-    ensures { targets.of_target result ≡ targets.absent (of_bytes asked.entry) }
+    ensures { of_target result ≡ targets.absent (of_bytes asked.entry) }
 {
     if asked.may_be_missing {
         Target::Nothing

@@ -24,19 +24,27 @@ is_finished end.Finished = true
 is_finished end.Stopped = false
 is_finished end.Unfinished = false
 
+-- The next archive that a log gives.
+abbrev pub archive_after : Parts → Archive → List Logged → Archive
+archive_after P O log = next_archive (job.view_in P O log) O
+
+-- The items of a job that ends so, and its next archive: only a finished one has them.
+abbrev pub items_by : End → Parts → Archive → List Logged → List Item
+items_by e P O log = if is_finished e then items (job.view_in P O log) else []
+
+abbrev pub archive_by : End → Parts → Archive → List Logged → Option Archive
+archive_by e P O log = if is_finished e then Some (archive_after P O log) else None
+
 -- How a job with this log ends, where the first argument says whether it was stopped.
 abbrev pub end_with : Bool → Parts → Archive → List Logged → End
 end_with stopped P O log = if stopped then end.Stopped else end_by (job.next P O log)
 
 -- The items of a finished job, and its next archive.
 abbrev pub items_with : Bool → Parts → Archive → List Logged → List Item
-items_with stopped P O log =
-    if is_finished (end_with stopped P O log) then items (job.view_in P O log) else []
+items_with stopped P O log = items_by (end_with stopped P O log) P O log
 
 abbrev pub archive_with : Bool → Parts → Archive → List Logged → Option Archive
-archive_with stopped P O log =
-    if is_finished (end_with stopped P O log) then Some (next_archive (job.view_in P O log) O)
-    else None
+archive_with stopped P O log = archive_by (end_with stopped P O log) P O log
 
 -- The same of a job.
 abbrev pub end_of : JobValue → End

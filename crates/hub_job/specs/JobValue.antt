@@ -9,7 +9,7 @@ use Rattle.hub_job.specs.declared.op.Next.TheVariants.{Ask}
 use Rattle.hub_job.specs.declared.phase.Phase.{Phase}
 use Rattle.hub_job.specs.Phase.{Follows, IsAskedIn, asked_by, is_stopped}
 use Rattle.hub_job.specs.declared.log.Logged.{Logged}
-use Rattle.hub_job.specs.Job.{next}
+use Rattle.hub_job.specs.Job.{IfAsksNoMore, next}
 use Rattle.hub_job.specs.Run.{Runs}
 
 -- Its number, its profile and archive, its log, what it asked and isn't answered yet, and whether
@@ -52,6 +52,12 @@ pub record IsWhole (J : JobValue) (p : Phase) : Type 0 where
 abbrev pub IsRoomy : Option Asked → ℕ → ℕ → Type 0
 IsRoomy None len capacity = Unit {0}
 IsRoomy (Some a) len capacity = len < capacity
+
+-- A job that wasn't stopped, has made a step after its Looks and asks for no more isn't stopped by a
+-- turn.
+abbrev pub EndsUnstopped : JobValue → Bool → Type 0
+EndsUnstopped J stopped =
+    J.stopped ≡ false → IfAsksNoMore J.profile J.archive J.log (stopped ≡ false)
 
 -- A job that has asked nothing.
 abbrev pub new_job : ℕ → Parts → Archive → JobValue

@@ -27,6 +27,10 @@ use Rattle.hub_reconcile.specs.Merge.{seen_paths}
 abbrev pub IsWaiting : Parts → List Logged → Side → List Path → Type 0
 IsWaiting P log side ps = needed P (sights log side) ≡ seen_paths (sights log side) ++ ps
 
+-- No Look waits, on either side.
+abbrev pub NoneWaits : Parts → List Logged → Type 0
+NoneWaits P log = IsWaiting P log Left [] × IsWaiting P log Right []
+
 -- The names that an answer lists.
 abbrev pub names_listed : Answer → List Name
 names_listed (Seen s) = s.names
@@ -125,7 +129,7 @@ pub record IsNext (P : Parts) (O : Archive) (log : List Logged) (p : Phase) (n :
   pub next : IsNextIn P O log p n
   pub follows : Follows P O log p
   pub asked : IsAskedIn log p (asked_by n)
-  pub finished : n ≡ Finished → IsWaiting P log Left [] × IsWaiting P log Right []
+  pub finished : n ≡ Finished → NoneWaits P log
 
 -- What is next of these steps.
 abbrev pub next_step : Steps → List Logged → Next

@@ -97,9 +97,7 @@ impl<'a> Job<'a> {
         ensures stopped { self.new.stopped ≡ true → result ≡ Next.Stopped }
         ensures after { self.new ≡ value.after_turn self.old self.new.stopped result }
         ensures stays { self.old.stopped ≡ true → self.new.stopped ≡ true }
-        ensures memory { self.old.stopped ≡ false → 0 < spec.steps_made self.old.log
-            → spec.is_ask (spec.next self.old.profile self.old.archive self.old.log) ≡ false
-            → self.new.stopped ≡ false }
+        ensures memory { value.EndsUnstopped self.old self.new.stopped }
     {
         match ask(
             self.alloc,
@@ -232,9 +230,7 @@ fn ask(
     ensures log { log.new.items ≡ log.old.items }
     ensures room { OnOk result
         (value.IsRoomy asked.new (vec_len log.new) (vec_capacity log.new)) }
-    ensures memory { 0 < spec.steps_made log.old.items
-        → spec.is_ask (spec.next profile.now archive.now log.old.items) ≡ false
-        → IsOk result }
+    ensures memory { spec.IfAsksNoMore profile.now archive.now log.old.items (IsOk result) }
 {
     let next = next_of(alloc, profile, archive, log.as_slice(), phase)?;
     let next = known.sharing(next);

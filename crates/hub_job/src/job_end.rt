@@ -1,10 +1,6 @@
-ghost use Rattle.std.specs.Prelude.{◌≡◌, ℕ, [], IfOk, if◌then◌else◌};
-ghost use Rattle.hub_path.specs.declared.side.Side.TheVariants as of_side;
-ghost use Rattle.hub_reconcile.specs.Items.{items};
-ghost use Rattle.hub_reconcile.specs.Sync.{next_archive};
-ghost use Rattle.hub_job.specs.Ends.{end_by, is_finished, archive_with, end_with, items_with};
-ghost use Rattle.hub_job.specs.Job.{next, view_in};
-ghost use Rattle.hub_job.specs.Phase.{Follows, IsWaiting, is_stopped};
+ghost use Rattle.std.specs.Prelude.{◌≡◌, ℕ, [], IfOk};
+ghost use Rattle.hub_job.specs.Ends.{archive_by, archive_with, end_by, end_with, items_by, items_with};
+ghost use Rattle.hub_job.specs.Phase.{Follows, NoneWaits, is_stopped};
 ghost use Rattle.hub_job.specs.Run.{Runs};
 
 use crate::log::Logged;
@@ -74,11 +70,9 @@ fn end_in(
 ) -> Result<End, AllocError>
     requires follows { Follows profile.now archive.now log.now phase.old }
     requires run { (j : ℕ) × Runs profile.now archive.now j [] log.now }
-    ensures end { IfOk result (λ e. e ≡ (if is_stopped phase.old then End.Stopped
-        else end_by (next profile.now archive.now log.now))) }
-    ensures finished { IfOk result (λ e. e ≡ End.Finished
-        → IsWaiting profile.now log.now of_side.Left []
-        × IsWaiting profile.now log.now of_side.Right []) }
+    ensures end { IfOk result
+        (λ e. e ≡ end_with (is_stopped phase.old) profile.now archive.now log.now) }
+    ensures finished { IfOk result (λ e. e ≡ End.Finished → NoneWaits profile.now log.now) }
 {
     let next = next_of(alloc, profile, archive, log, phase)?;
     Ok(end_before(&next))
@@ -103,12 +97,9 @@ fn left_by(
     log: &[Logged],
     end: End,
 ) -> Result<(Items<Item>, Option<Archive>), AllocError>
-    requires { end ≡ End.Finished → IsWaiting profile.now log.now of_side.Left []
-        × IsWaiting profile.now log.now of_side.Right [] }
-    ensures items { IfOk result (λ l. l.0 ≡ (if is_finished end
-        then items (view_in profile.now archive.now log.now) else [])) }
-    ensures archive { IfOk result (λ l. l.1 ≡ (if is_finished end then Some
-        (next_archive (view_in profile.now archive.now log.now) archive.now) else None)) }
+    requires { end ≡ End.Finished → NoneWaits profile.now log.now }
+    ensures items { IfOk result (λ l. l.0 ≡ items_by end profile.now archive.now log.now) }
+    ensures archive { IfOk result (λ l. l.1 ≡ archive_by end profile.now archive.now log.now) }
 {
     match end {
         End::Finished => {

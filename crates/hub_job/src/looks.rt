@@ -1,9 +1,9 @@
 //! The Looks that a job still needs.
-ghost use Rattle.std.specs.Prelude.{◌≡◌, ◌<◌, [], ◌∷◌, length, slice_get, IfOk, OnOk};
+ghost use Rattle.std.specs.Prelude.{◌≡◌, ◌<◌, length, slice_get, IfOk, OnOk};
 ghost use Rattle.std.specs.BTreeSet.{insert_key};
-ghost use Rattle.hub_path.specs.Path.{ascending, parent, path_cmp, children_named};
+ghost use Rattle.hub_path.specs.Path.{ascending, parent, path_cmp};
 ghost use Rattle.hub_reconcile.specs.Picture as picture;
-ghost use Rattle.hub_job.specs.Phase.{first_look, look_at, names_listed, told_more, told_to};
+ghost use Rattle.hub_job.specs.Phase.{first_look, listed_by, look_at, told_more, told_to};
 ghost use Rattle.hub_job.specs.forms.Waiting.{looks_for, put_all, put_kept};
 
 use crate::answer::Answer;
@@ -98,8 +98,8 @@ fn tell(waiting: &mut Waiting, step: &Entry) -> Result<(), AllocError>
 
 /// Puts in the children of a path that an answer names.
 fn tell_names(waiting: &mut Waiting, path: &RelPath, answer: &Answer) -> Result<(), AllocError>
-    ensures { OnOk result (waiting.new
-        ≡ put_all waiting.old (children_named path.now (names_listed answer.now))) }
+    ensures { OnOk result
+        (waiting.new ≡ put_all waiting.old (listed_by (Op.Look path.now) answer.now)) }
 {
     match answer {
         Answer::Seen(sight) => waiting.add_children(path, sight.names()),

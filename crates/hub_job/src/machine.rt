@@ -131,8 +131,7 @@ fn look_with<'a>(
     ensures mark { IfOk result (λ r. r.0 ≡ of_tree.mark_at tree.now path.now) }
     ensures names { IfOk result
         (λ r. r.1 ≡ of_sight.reached_names profile.now tree.now path.now) }
-    ensures others { IfOk result (λ r. r.2
-        ≡ list_any (λ q. not (reach profile.now q)) (of_tree.children tree.now path.now)) }
+    ensures others { IfOk result (λ r. r.2 ≡ machine.has_others profile.now tree.now path.now) }
     ensures file { IfOk result (λ r. option_map (λ b. b.now) r.3
         ≡ of_tree.bytes_at tree.now path.now) }
 {
@@ -252,9 +251,7 @@ fn set(tree: &mut Tree, path: &RelPath, contents: Contents) -> Result<Answer, Al
     ensures answer { IfOk result
         (λ a. a ≡ machine.done_unless (of_tree.set_fault tree.old path.now contents)) }
     ensures fits { IfOk result (machine.Fits (Op.Set path.now contents)) }
-    ensures after { OnOk result (tree.new ≡ machine.changed_unless
-        (of_tree.set_fault tree.old path.now contents) tree.old
-        (of_tree.with_contents tree.old path.now contents)) }
+    ensures after { OnOk result (tree.new ≡ machine.with_set tree.old path.now contents) }
     ensures err { OnErr result (tree.new ≡ tree.old) }
 {
     match tree.set(path, contents) {

@@ -1,5 +1,5 @@
 //! How far a job is.
-ghost use Rattle.std.specs.Prelude.{◌≡◌, ◌<◌, ℕ, false, [], IfOk, IsOk, OnOk};
+ghost use Rattle.std.specs.Prelude.{◌≡◌, ◌<◌, ℕ, [], IfOk, IsOk, OnOk};
 ghost use Rattle.hub_job.specs.Job as spec;
 ghost use Rattle.hub_job.specs.Phase.{Follows, IsNext, is_stopped};
 ghost use Rattle.hub_job.specs.Run.{Runs};
@@ -37,8 +37,7 @@ pub(crate) fn next_of(
     requires run { (j : ℕ) × Runs profile.now archive.now j [] log.now }
     ensures next { IfOk result (IsNext profile.now archive.now log.now phase.new) }
     ensures stopped { OnOk result (is_stopped phase.new ≡ is_stopped phase.old) }
-    ensures memory { 0 < spec.steps_made log.now
-        → spec.is_ask (spec.next profile.now archive.now log.now) ≡ false → IsOk result }
+    ensures memory { spec.IfAsksNoMore profile.now archive.now log.now (IsOk result) }
 {
     match phase {
         Phase::Looking(looks) => {

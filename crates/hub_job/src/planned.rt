@@ -1,11 +1,11 @@
 //! The plan of a job that has made all its Looks.
-ghost use Rattle.std.specs.Prelude.{◌≡◌, true, ◌++◌, [], IfOk, OnOk};
+ghost use Rattle.std.specs.Prelude.{◌≡◌, true, [], IfOk, OnOk};
 ghost use Rattle.hub_path.specs.declared.side.Side.TheVariants as of_side;
 ghost use Rattle.hub_reconcile.specs.Picture.{told_by};
 ghost use Rattle.hub_reconcile.specs.Sides.{side_eq};
 ghost use Rattle.hub_reconcile.specs.Items.{items};
-ghost use Rattle.hub_reconcile.specs.Sync.{next_archive};
-ghost use Rattle.hub_job.specs.Job.{sights, told, view_in};
+ghost use Rattle.hub_job.specs.Ends.{archive_after};
+ghost use Rattle.hub_job.specs.Job.{TellsMore, sights, told, view_in};
 ghost use Rattle.hub_job.specs.Phase.{AreSteps, IsWaiting, are_looks};
 
 use crate::answer::Answer;
@@ -29,8 +29,7 @@ pub(crate) fn ending(
     requires left { IsWaiting profile.now log.now of_side.Left [] }
     requires right { IsWaiting profile.now log.now of_side.Right [] }
     ensures items { IfOk result (λ e. e.0 ≡ items (view_in profile.now archive.now log.now)) }
-    ensures archive { IfOk result (λ e. e.1
-        ≡ next_archive (view_in profile.now archive.now log.now) archive.now) }
+    ensures archive { IfOk result (λ e. e.1 ≡ archive_after profile.now archive.now log.now) }
 {
     let left = looks_at(alloc, log, Side::Left)?;
     let right = looks_at(alloc, log, Side::Right)?;
@@ -90,8 +89,8 @@ fn is_side(first: Side, second: Side) -> bool
 
 /// Appends what an entry tells, if it is of a Look.
 fn push_look<'a>(looks: &mut Vec<Look<'a>>, step: &'a Entry) -> Result<(), AllocError>
-    ensures { OnOk result (told_by looks.new.items
-        ≡ told_by looks.old.items ++ told step.now.op step.now.answer) }
+    ensures { OnOk result
+        (TellsMore looks.old.items looks.new.items (told step.now.op step.now.answer)) }
 {
     match &step.op {
         Op::Look(path) => push_seen(looks, path, &step.answer),
@@ -106,8 +105,8 @@ fn push_seen<'a>(
     path: &'a RelPath,
     answer: &'a Answer,
 ) -> Result<(), AllocError>
-    ensures { OnOk result (told_by looks.new.items
-        ≡ told_by looks.old.items ++ told (Op.Look path.now) answer.now) }
+    ensures { OnOk result
+        (TellsMore looks.old.items looks.new.items (told (Op.Look path.now) answer.now)) }
 {
     match answer {
         Answer::Seen(sight) => looks.push(Look {

@@ -1,5 +1,5 @@
 //! The steps of a job after its Looks.
-ghost use Rattle.std.specs.Prelude.{◌≡◌, ◌≤◌, false, [], ◌∷◌, ◌++◌, length, IfOk, IsOk, OnOk};
+ghost use Rattle.std.specs.Prelude.{◌≡◌, ◌≤◌, false, ◌++◌, length, IfOk, IsOk, OnOk};
 ghost use Rattle.std.specs.List.{flat_map};
 ghost use Rattle.hub_job.specs.Job as spec;
 ghost use Rattle.hub_job.specs.Phase.{last_refused, next_step};
@@ -61,8 +61,7 @@ fn is_refused(answer: &Answer) -> bool
 
 /// Returns the steps of changes: a `Fetch` and a `Set` for each that makes a file, and a `Set` for each other one.
 pub(crate) fn steps_of(alloc: Global, changes: Items<Change>) -> Result<Items<Step>, AllocError>
-    ensures { IfOk result (λ ss. ss
-        ≡ flat_map (λ c. spec.steps_of c.side c.path c.mark) changes) }
+    ensures { IfOk result (λ ss. ss ≡ flat_map (λ c. spec.steps_of c.side c.path c.mark) changes) }
 {
     let mut steps = Vec::new(alloc);
     for change in changes.into_vec() {
@@ -73,8 +72,7 @@ pub(crate) fn steps_of(alloc: Global, changes: Items<Change>) -> Result<Items<St
 
 /// Appends the steps of a change.
 fn push_steps(steps: &mut Vec<Step>, change: Change) -> Result<(), AllocError>
-    ensures { OnOk result (steps.new.items
-        ≡ steps.old.items ++ spec.steps_of change.side change.path change.mark) }
+    ensures { OnOk result (steps.new.items ≡ steps.old.items ++ spec.steps_for change) }
 {
     let Change { side, path, mark } = change;
     if let Mark::File(_) = mark {

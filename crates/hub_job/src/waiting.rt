@@ -1,8 +1,8 @@
-ghost use Rattle.std.specs.Prelude.{◌≡◌, ◌≤◌, [], ◌∷◌, drop, length, reverse, slice_get, insert, IfNone, IfSome, OnOk};
+ghost use Rattle.std.specs.Prelude.{◌≡◌, ◌≤◌, [], drop, length, reverse, slice_get, IfNone, IfSome, OnOk};
 ghost use Rattle.std.specs.Option.{option_map};
 ghost use Rattle.std.specs.BTreeSet.{insert_key};
 ghost use Rattle.hub_path.specs.Path.{path_cmp, children_named};
-ghost use Rattle.hub_job.specs.forms.Waiting.{put_all};
+ghost use Rattle.hub_job.specs.forms.Waiting.{IsPlaceIn, put_all};
 
 use hub_path::{Name, RelPath};
 use std::alloc::{AllocError, Global};
@@ -77,8 +77,7 @@ impl Waiting {
 /// Returns where a path goes in a stack, or `None` if it is there. It looks from the end on.
 fn index_of(stack: &[RelPath], path: &RelPath) -> Option<usize>
     ensures within { IfSome result (λ at. at ≤ length stack.now) }
-    ensures place { IfSome result (λ at. insert_key path_cmp (reverse stack.now) path.now
-        ≡ reverse (insert stack.now at path.now)) }
+    ensures place { IfSome result (λ at. IsPlaceIn stack.now path.now at) }
     ensures there { IfNone result
         (insert_key path_cmp (reverse stack.now) path.now ≡ reverse stack.now) }
 {

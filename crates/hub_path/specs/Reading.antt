@@ -1,10 +1,10 @@
 -- Which texts are names, paths and roots, and the first fault of each other text.
-use Rattle.std.specs.Prelude.{ℕ, ◌+◌, Bool, false, not, ◌&&◌, ◌||◌, ◌==◌, nat_lt, nat_le, nat_eq, drop, sum_by, codes, List, [], ◌∷◌, length, Option, Some, None, Result, Ok, Err, if◌then◌else◌}
+use Rattle.std.specs.Prelude.{◌≡◌, ℕ, ◌+◌, Bool, false, not, ◌&&◌, ◌||◌, ◌==◌, nat_lt, nat_le, nat_eq, drop, sum_by, codes, List, [], ◌∷◌, length, Option, Some, None, Result, Ok, Err, if◌then◌else◌}
 use Rattle.std.specs.List.{list_all, list_any, starts_with}
 use Rattle.std.specs.Char.{len_utf8}
 use Rattle.hub_text.specs.Fails.{Fails}
 use Rattle.hub_text.specs.Lines.{without_last}
-use Rattle.hub_path.specs.Path.{Name, Path, path_of, is_forbidden, is_dots}
+use Rattle.hub_path.specs.Path.{Name, Path, path_of, text_of, is_forbidden, is_dots}
 use Rattle.hub_path.specs.declared.name.TheConstants.{NAME_BYTES}
 use Rattle.hub_path.specs.declared.rel_path.TheConstants.{PATH_NAMES}
 use Rattle.hub_path.specs.declared.fault.PathFault.{PathFault}
@@ -108,3 +108,11 @@ root_fault cs =
 
 abbrev pub root_reading : List ℕ → Result Path PathFault
 root_reading cs = or_fault (root_fault cs) (root_names cs)
+
+-- A text is a slash and the text of this root, and may end with one more slash.
+abbrev pub IsRootText : Path → List ℕ → Type 0
+IsRootText r cs = (cs ≡ 47 ∷ drop 1 cs) × (text_of r ≡ without_last_slash (drop 1 cs))
+
+-- A root is read from a slash and its text.
+abbrev pub IsReadBackAsRoot : Path → Type 0
+IsReadBackAsRoot r = root_reading (47 ∷ text_of r) ≡ Ok r

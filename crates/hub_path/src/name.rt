@@ -1,7 +1,8 @@
-ghost use Rattle.std.specs.Prelude.{◌≡◌, ◌==◌, ◌&&◌, not, length, nat_lt, sum_by, Ok, IfOk, IfErr, IfSome, IsTrue, chars, encode_utf8_all};
+ghost use Rattle.std.specs.Prelude.{◌≡◌, ◌==◌, ◌&&◌, nat_lt, sum_by, Ok, IfOk, IfErr, IfSome, IsTrue, chars, encode_utf8_all};
 ghost use Rattle.std.specs.List.{list_any};
 ghost use Rattle.std.specs.Char.{len_utf8};
 ghost use Rattle.hub_path.specs.Path as path;
+ghost use Rattle.hub_path.specs.forms.Texts as texts;
 ghost use Rattle.hub_path.specs.Reading.{FailsAs, name_reading, name_fault};
 
 use crate::fault::PathFault;
@@ -123,8 +124,7 @@ fn is_name(text: &str) -> bool
 
 /// Returns whether a text passes the tests of a name, in the order of `read`.
 fn passes_tests(text: &str) -> bool
-    ensures { result ≡ (not (length (chars text.now) == 0) && not (path.is_dots (chars text.now))
-        && not (list_any path.is_forbidden (chars text.now))) }
+    ensures { result ≡ texts.passes_tests (chars text.now) }
 {
     !is_empty(text) && !is_dots(text) && !has_forbidden(text)
 }

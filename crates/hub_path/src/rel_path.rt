@@ -1,6 +1,7 @@
 ghost use Rattle.std.specs.Prelude.{◌≡◌, ◌<◌, ◌↔◌, [], ◌∷◌, ◌++◌, length, slice_get, Some, Ok, IfOk, IfErr, IfSome, IsNone, IsTrue, chars, string_bytes, encode_utf8_all};
 ghost use Rattle.hub_path.specs.Path as path;
 ghost use Rattle.hub_path.specs.Reading.{FailsAs, path_reading, names_reading, place_of};
+ghost use Rattle.hub_path.specs.forms.Texts.{HasChildText};
 
 use crate::fault::PathFault;
 use crate::name::Name;
@@ -240,7 +241,7 @@ fn with_text(alloc: Global, names: Vec<Name>, text: &str) -> Result<RelPath, All
 /// Makes the text of a path with one more name.
 fn longer(alloc: Global, front: &RelPath, name: &str) -> Result<String, AllocError>
     ensures { (n : path.Name) → name.now ≡ encode_utf8_all n
-        → IfOk result (λ t. string_bytes t ≡ encode_utf8_all (path.text_of (front.now ++ n ∷ []))) }
+        → IfOk result (λ t. HasChildText t front.now n) }
 {
     let text = front.as_str();
     let capacity = text.len().saturating_add(name.len()).saturating_add(1);

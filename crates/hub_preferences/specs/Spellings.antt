@@ -1,10 +1,11 @@
 -- Values of `path` lines that Unison reads and the plain reader refuses, in the plain reader's
 -- spelling.
-use Rattle.std.specs.Prelude.{◌≡◌, true, ℕ, Bool, not, ◌&&◌, ◌||◌, nat_eq, List, [], ◌∷◌, ◌++◌, Option, Some, None, if◌then◌else◌, codes, bytes_eq, encode_utf8_all}
+use Rattle.std.specs.Prelude.{◌≡◌, true, ℕ, Bool, not, ◌&&◌, ◌||◌, nat_eq, List, [], ◌∷◌, ◌++◌, Option, Some, None, Ok, if◌then◌else◌, codes, bytes_eq, encode_utf8_all}
 use Rattle.std.specs.List.{filter, flat_map, starts_with}
 use Rattle.std.specs.Str.{is_utf8, chars}
 use Rattle.hub_path.specs.Path.{Name, Path, is_place, path_of}
 use Rattle.hub_path.specs.Reading.{begins_with_slash, without_last_slash}
+use Rattle.hub_profile.specs.Reading.{kept_reading}
 use Rattle.hub_profile.specs.Lines.{trimmed_line, is_setting, has_equals, name_and_value, is_one_of}
 
 -- Unison takes a name that is empty or `.` for nothing: by `./a`, `a//b` and `a/./` it synchronizes
@@ -18,6 +19,10 @@ names_of v = filter (λ n. not (is_nothing n)) (path_of v)
 -- Names with a slash after each. The plain reader drops the last slash.
 abbrev pub with_slashes : Path → List ℕ
 with_slashes ns = flat_map (λ n. n ++ 47 ∷ []) ns
+
+-- The plain reader reads these names of their text with slashes.
+abbrev pub ReadsBack : Path → Type 0
+ReadsBack ns = kept_reading (with_slashes ns) ≡ Ok ns
 
 -- They are those of a place, and the bytes have each of them with a slash after it.
 abbrev pub HaveSlashes : Path → List ℕ → Type 0

@@ -1,7 +1,7 @@
 //! A bundle without the lines that a cautious reading leaves out.
-ghost use Rattle.std.specs.Prelude.{◌≡◌, ◌++◌, IfOk, OnOk};
-ghost use Rattle.hub_text.specs.Lines.{line_text};
+ghost use Rattle.std.specs.Prelude.{◌≡◌, IfOk, OnOk};
 ghost use Rattle.hub_preferences.specs.Counted as spec;
+ghost use Rattle.hub_preferences.specs.Counted.{AddsLine, comment, line_of, spelled};
 
 use crate::section::{NO_PROFILE, Section};
 use hub_text::Lines;
@@ -31,8 +31,7 @@ pub fn counted(alloc: Global, bundle: &[u8]) -> Result<Vec<u8>, AllocError>
 
 /// Adds a comment of the length of a line.
 fn push_comment(bytes: &mut Vec<u8>, text: &[u8], is_ended: bool) -> Result<(), AllocError>
-    ensures { OnOk result (bytes.new.items ≡ bytes.old.items
-        ++ line_text (spec.comment (record { text = text.now; is_ended = is_ended }))) }
+    ensures { OnOk result (AddsLine bytes.old bytes.new (comment (line_of text.now is_ended))) }
 {
     bytes.push(b'#')?;
     push_line(bytes, text.get(1..).unwrap_or(&[]), is_ended)
@@ -46,8 +45,8 @@ fn push_spelled(
     text: &[u8],
     is_ended: bool,
 ) -> Result<(), AllocError>
-    ensures { OnOk result (bytes.new.items ≡ bytes.old.items
-        ++ line_text (spec.spelled section (record { text = text.now; is_ended = is_ended }))) }
+    ensures { OnOk result (AddsLine bytes.old bytes.new
+        (spelled section (line_of text.now is_ended))) }
 {
     match section.spelling(alloc, text)? {
         Some(line) => push_line(bytes, line.as_bytes(), is_ended),
@@ -57,8 +56,7 @@ fn push_spelled(
 
 /// Adds a line.
 fn push_line(bytes: &mut Vec<u8>, text: &[u8], is_ended: bool) -> Result<(), AllocError>
-    ensures { OnOk result (bytes.new.items ≡ bytes.old.items
-        ++ line_text (record { text = text.now; is_ended = is_ended })) }
+    ensures { OnOk result (AddsLine bytes.old bytes.new (line_of text.now is_ended)) }
 {
     bytes.extend_from_slice(text)?;
     if is_ended {

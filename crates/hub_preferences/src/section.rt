@@ -79,7 +79,7 @@ impl Section {
         below: &[u8],
     ) -> Result<bool, AllocError>
         ensures { IfOk result (λ b. b
-            ≡ counted.is_kind_left_out self kind (counted.kinds_below (lines_of below.now))) }
+            ≡ counted.is_kind_left_out self kind (counted.kinds_in below.now)) }
     {
         match kind {
             LineKind::Stays => Ok(false),
@@ -93,8 +93,8 @@ impl Section {
     }
 
     fn leaves_force_out(self, alloc: Global, below: &[u8]) -> Result<bool, AllocError>
-        ensures { IfOk result (λ b. b ≡ counted.is_kind_left_out self kind_is.Force
-            (counted.kinds_below (lines_of below.now))) }
+        ensures { IfOk result (λ b. b
+            ≡ counted.is_kind_left_out self kind_is.Force (counted.kinds_in below.now)) }
     {
         if self.overrides_force {
             return Ok(true);
@@ -105,7 +105,7 @@ impl Section {
 
 /// The section of a profile above these lines.
 fn profile_above(alloc: Global, lines: &[u8]) -> Result<Section, AllocError>
-    ensures { IfOk result (λ s. s ≡ counted.profile_of (counted.kinds_below (lines_of lines.now))) }
+    ensures { IfOk result (λ s. s ≡ counted.profile_of (counted.kinds_in lines.now)) }
 {
     let overrides_force = has_override(alloc, lines)?;
     let lacks_ignorenot = has_unread_ignorenot(alloc, lines)?;
@@ -118,8 +118,7 @@ fn profile_above(alloc: Global, lines: &[u8]) -> Result<Section, AllocError>
 
 /// Returns whether one of these lines, up to the next heading, overrides the `force` lines.
 fn has_override(alloc: Global, bytes: &[u8]) -> Result<bool, AllocError>
-    ensures { IfOk result (λ b. b
-        ≡ list_any kinds.overrides_force (counted.kinds_below (lines_of bytes.now))) }
+    ensures { IfOk result (λ b. b ≡ list_any kinds.overrides_force (counted.kinds_in bytes.now)) }
 {
     let mut lines = Lines::new(bytes);
     while let Some(line) = lines.next() {
@@ -136,8 +135,7 @@ fn has_override(alloc: Global, bytes: &[u8]) -> Result<bool, AllocError>
 
 /// Returns whether one of these lines, up to the next heading, sets `force`.
 fn has_force(alloc: Global, bytes: &[u8]) -> Result<bool, AllocError>
-    ensures { IfOk result (λ b. b
-        ≡ list_any kinds.sets_force (counted.kinds_below (lines_of bytes.now))) }
+    ensures { IfOk result (λ b. b ≡ list_any kinds.sets_force (counted.kinds_in bytes.now)) }
 {
     let mut lines = Lines::new(bytes);
     while let Some(line) = lines.next() {
@@ -154,8 +152,8 @@ fn has_force(alloc: Global, bytes: &[u8]) -> Result<bool, AllocError>
 
 /// Returns whether one of these lines, up to the next heading, is an `ignorenot` line whose pattern can't be read.
 fn has_unread_ignorenot(alloc: Global, bytes: &[u8]) -> Result<bool, AllocError>
-    ensures { IfOk result (λ b. b
-        ≡ list_any kinds.is_unread_ignorenot (counted.kinds_below (lines_of bytes.now))) }
+    ensures { IfOk result (λ b. b ≡ list_any kinds.is_unread_ignorenot
+        (counted.kinds_in bytes.now)) }
 {
     let mut lines = Lines::new(bytes);
     while let Some(line) = lines.next() {

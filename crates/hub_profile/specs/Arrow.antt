@@ -1,7 +1,8 @@
 -- The value of a line that bars changes on some paths: `PATHSPEC -> ROOT`, cut at the last arrow.
-use Rattle.std.specs.Prelude.{◌≡◌, ℕ, Bool, true, false, ◌||◌, nat_eq, List, [], ◌∷◌, drop, if◌then◌else◌, codes}
+use Rattle.std.specs.Prelude.{◌≡◌, ℕ, Bool, true, false, ◌||◌, nat_eq, List, [], ◌∷◌, drop, if◌then◌else◌, codes, chars}
 use Rattle.std.specs.List.{starts_with}
-use Rattle.hub_profile.specs.Lines.{trimmed}
+use denote.Ref.{Bor}
+use Rattle.hub_profile.specs.Lines.{both_chars, trimmed}
 
 abbrev pub begins_with_arrow : List ℕ → Bool
 begins_with_arrow cs = starts_with nat_eq cs (codes "->")
@@ -33,3 +34,10 @@ spec_and_root v = (trimmed (before_arrow v), trimmed (after_arrow v))
 abbrev pub CutsAtArrow : List ℕ → List ℕ × List ℕ → Type 0
 CutsAtArrow v pair =
     (has_arrow v ≡ true) × (pair.0 ≡ (spec_and_root v).0) × (pair.1 ≡ (spec_and_root v).1)
+
+-- The same of a text in UTF-8, and of borrowed texts.
+abbrev pub HasTextsAtArrow : List ℕ → Bor (List ℕ) × Bor (List ℕ) → Type 0
+HasTextsAtArrow v texts = HasPartsAtArrow (chars v) (both_chars texts)
+
+abbrev pub CutsTextAtArrow : List ℕ → Bor (List ℕ) × Bor (List ℕ) → Type 0
+CutsTextAtArrow v texts = CutsAtArrow (chars v) (both_chars texts)

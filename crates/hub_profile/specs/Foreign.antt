@@ -35,3 +35,9 @@ abbrev pub foreign_fault : List Path → List ProtectionLine → List PartialLin
 foreign_fault roots protections partials =
     option_map not_a_root
     (lower (foreign_protection roots protections) (foreign_partial roots partials))
+
+-- The same where these are the two roots.
+abbrev pub fault_of_roots : Path → Path → List ProtectionLine → List PartialLine
+    → Option ProfileFault
+fault_of_roots left right protections partials =
+    foreign_fault (left ∷ right ∷ []) protections partials

@@ -54,3 +54,7 @@ both_chars texts = (chars texts.0.now, chars texts.1.now)
 abbrev pub CutsAtEquals : List ℕ → List ℕ × List ℕ → Type 0
 CutsAtEquals l pair =
     (has_equals l ≡ true) × (pair.0 ≡ (name_and_value l).0) × (pair.1 ≡ (name_and_value l).1)
+
+-- The same of a line in UTF-8, and of borrowed texts.
+abbrev pub CutsTextAtEquals : List ℕ → Bor (List ℕ) × Bor (List ℕ) → Type 0
+CutsTextAtEquals l texts = CutsAtEquals (chars l) (both_chars texts)

@@ -1,5 +1,5 @@
 -- Lines that protect a root, and what they mean for the two roots of a profile.
-use Rattle.std.specs.Prelude.{ℕ, Bool, true, false, ◌&&◌, List, [], ◌∷◌, Option, Some, None, codes}
+use Rattle.std.specs.Prelude.{ℕ, Bool, true, false, ◌&&◌, List, [], ◌∷◌, map, Option, Some, None, codes}
 use Rattle.std.specs.List.{list_any}
 use Rattle.hub_path.specs.Path.{Path, path_eq}
 use Rattle.hub_path.specs.declared.side.Side.{Side}
@@ -89,3 +89,14 @@ bars_at lines r = record {
   update = bars_update lines r;
   delete = bars_deletion lines r;
 }
+
+-- The side whose root all differences, or conflicts, are resolved in favour of.
+abbrev pub forced_side : List ProtectionLine → Path → Path → Option Side
+forced_side lines left right = side_where (is_forced lines) (left ∷ right ∷ [])
+
+abbrev pub preferred_side : List ProtectionLine → Path → Path → Option Side
+preferred_side lines left right = side_where (is_preferred lines) (left ∷ right ∷ [])
+
+-- The changes that the lines forbid at each of two roots.
+abbrev pub bars_at_each : List ProtectionLine → Path → Path → List Bars
+bars_at_each lines left right = map (bars_at lines) (left ∷ right ∷ [])

@@ -3,6 +3,7 @@ ghost use Rattle.std.specs.Prelude.{◌≡◌, ◌∷◌, [], IfErr, OnOk, Some,
 ghost use Rattle.std.specs.List.{list_any};
 ghost use Rattle.hub_path.specs.Path.{path_eq};
 ghost use Rattle.hub_profile.specs.Foreign as foreign;
+ghost use Rattle.hub_profile.specs.Foreign.{fault_of_roots};
 
 use crate::fault::{Fault, ProfileFault};
 use crate::partial_line::PartialLine;
@@ -16,10 +17,10 @@ pub(crate) fn check_roots(
     left: &Root,
     right: &Root,
 ) -> Result<(), ProfileFault>
-    ensures ok { OnOk result (foreign.foreign_fault (left.now ∷ right.now ∷ [])
-        protections.now partials.now ≡ None) }
-    ensures err { IfErr result (λ f. foreign.foreign_fault (left.now ∷ right.now ∷ [])
-        protections.now partials.now ≡ Some f) }
+    ensures ok { OnOk result
+        (fault_of_roots left.now right.now protections.now partials.now ≡ None) }
+    ensures err { IfErr result
+        (λ f. fault_of_roots left.now right.now protections.now partials.now ≡ Some f) }
 {
     let first = foreign_protection(protections, left, right);
     match lower(first, foreign_partial(partials, left, right)) {

@@ -1,5 +1,5 @@
 //! One line of a text.
-ghost use Rattle.std.specs.Prelude.{◌≡◌, ◌==◌, ◌<◌, [], ◌∷◌, false, true, Ok, Err, IfOk, IfErr, chars, length, nat_eq, MatchOption};
+ghost use Rattle.std.specs.Prelude.{◌≡◌, ◌<◌, false, Ok, Err, IfOk, IfErr, chars, MatchOption};
 ghost use Rattle.hub_profile.specs.Lines as lines;
 
 use crate::fault::Fault;
@@ -44,7 +44,7 @@ fn is_include(line: &str) -> bool
 /// The name of what a line sets, and the value that the line gives it, where it has an `=`.
 pub fn name_and_value(line: &str) -> Option<(&str, &str)>
     ensures { MatchOption result (lines.has_equals (chars line.now) ≡ false)
-        (λ s. lines.CutsAtEquals (chars line.now) (lines.both_chars s)) }
+        (lines.CutsTextAtEquals line.now) }
 {
     let (name, value) = line.split_once('=')?;
     Some((trimmed(name), trimmed(value)))

@@ -1,7 +1,7 @@
 //! Lines that protect a root: `force`, `prefer`, `nodeletion`, `noupdate` and `nocreation`.
-ghost use Rattle.std.specs.Prelude.{◌≡◌, ◌∷◌, [], chars, map, IfOk, IfErr, OnOk, Some, None};
+ghost use Rattle.std.specs.Prelude.{◌≡◌, ◌∷◌, [], chars, IfOk, IfErr, OnOk, Some, None};
 ghost use Rattle.hub_profile.specs.Faults.{FailsWith};
-ghost use Rattle.hub_profile.specs.Foreign.{foreign_fault};
+ghost use Rattle.hub_profile.specs.Foreign.{fault_of_roots};
 ghost use Rattle.hub_profile.specs.PartialLines as partial;
 ghost use Rattle.hub_profile.specs.Protection as protection;
 
@@ -83,18 +83,18 @@ impl Protected {
         left: &Root,
         right: &Root,
     ) -> Result<Protected, ProfileFault>
-        ensures fine { OnOk result (foreign_fault (left.now ∷ right.now ∷ [])
-            protections.now partials.items ≡ None) }
-        ensures force { IfOk result (λ p. p.force ≡ protection.side_where
-            (protection.is_forced protections.now) (left.now ∷ right.now ∷ [])) }
-        ensures prefer { IfOk result (λ p. p.prefer ≡ protection.side_where
-            (protection.is_preferred protections.now) (left.now ∷ right.now ∷ [])) }
-        ensures bars { IfOk result (λ p. p.bars ≡
-            map (protection.bars_at protections.now) (left.now ∷ right.now ∷ [])) }
+        ensures fine { OnOk result
+            (fault_of_roots left.now right.now protections.now partials.items ≡ None) }
+        ensures force { IfOk result
+            (λ p. p.force ≡ protection.forced_side protections.now left.now right.now) }
+        ensures prefer { IfOk result
+            (λ p. p.prefer ≡ protection.preferred_side protections.now left.now right.now) }
+        ensures bars { IfOk result
+            (λ p. p.bars ≡ protection.bars_at_each protections.now left.now right.now) }
         ensures partial { IfOk result (λ p. p.partial ≡
             partial.partials_of (left.now ∷ right.now ∷ []) partials.items) }
-        ensures err { IfErr result (FailsWith (foreign_fault (left.now ∷ right.now ∷ [])
-            protections.now partials.items)) }
+        ensures err { IfErr result
+            (FailsWith (fault_of_roots left.now right.now protections.now partials.items)) }
     {
         check_roots(protections, partials.as_slice(), left, right)?;
         Ok(Protected {
@@ -147,16 +147,14 @@ fn is_newer_or_older(value: &str) -> bool
 
 /// The side whose root a `force` line names.
 fn forced_side(lines: &[ProtectionLine], left: &Root, right: &Root) -> Option<Side>
-    ensures { result ≡
-        protection.side_where (protection.is_forced lines.now) (left.now ∷ right.now ∷ []) }
+    ensures { result ≡ protection.forced_side lines.now left.now right.now }
 {
     first_side(is_forced(lines, left), is_forced(lines, right))
 }
 
 /// The side whose root a `prefer` line names.
 fn preferred_side(lines: &[ProtectionLine], left: &Root, right: &Root) -> Option<Side>
-    ensures { result ≡
-        protection.side_where (protection.is_preferred lines.now) (left.now ∷ right.now ∷ []) }
+    ensures { result ≡ protection.preferred_side lines.now left.now right.now }
 {
     first_side(is_preferred(lines, left), is_preferred(lines, right))
 }

@@ -1,6 +1,7 @@
 pub mod SpecTable
 pub mod Numbering
 pub mod Table
+pub mod Hashed
 pub mod Reach
 pub mod Bars
 pub mod Safe
@@ -13,5 +14,6 @@ pub mod WalkerEnds
 pub mod Mention
 pub mod After
 pub mod Apart
+pub mod forms
 pub mod laws
 pub mod examples

@@ -28,6 +28,10 @@ mentioned_by P =
     ++ (flat_map spec_characters P.ignore
     ++ (flat_map spec_characters P.ignorenot ++ flat_map partial_characters P.partial))
 
+-- The new alphabet mentions all characters that the old one mentions.
+abbrev pub StillMentions : List ℕ → List ℕ → Type 0
+StillMentions old new = (cs : List ℕ) → IsTrue (mentions old cs) → IsTrue (mentions new cs)
+
 -- Of some characters the first ones have been added to an alphabet, and the others haven't.
 pub record IsPartly (old cs new : List ℕ) : Type 0 where
   pub added : List ℕ

@@ -1,10 +1,10 @@
 -- Reach as it is seen by who goes down a path name by name: what has been seen above a path decides
 -- with the path itself.
-use Rattle.std.specs.Prelude.{Bool, not, ◌&&◌, ◌||◌, ◌==◌, length, List}
+use Rattle.std.specs.Prelude.{Bool, not, ◌&&◌, ◌||◌, ◌==◌, length, List, ◌≡◌, IsTrue, true}
 use Rattle.std.specs.List.{list_any}
 use Rattle.hub_path.specs.Path.{Path, path_eq, is_over, parent, prefixes}
 use Rattle.hub_profile.specs.Parts.{Parts}
-use Rattle.hub_reach.specs.Reach.{is_ignored}
+use Rattle.hub_reach.specs.Reach.{is_ignored, reach}
 
 -- The paths above a path, the whole replica left out, the shortest first.
 abbrev pub above : Path → List Path
@@ -28,3 +28,8 @@ abbrev pub is_walked : Parts → Path → Bool
 is_walked P p =
     not (is_cut P p) && (not (is_ignored P p)
     && (is_inside P p || list_any (λ s. path_eq s p) P.paths))
+
+-- The claim holds of a path that lies between a kept value and a path that is reached.
+abbrev pub OfPathBetween : Parts → Path → Path → Type 0 → Type 0
+OfPathBetween P x y C =
+    IsTrue (reach P y) → IsTrue (is_over x y) → list_any (λ s. is_over s x) P.paths ≡ true → C

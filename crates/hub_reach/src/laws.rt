@@ -1,19 +1,20 @@
 //! What follows from the definitions of reach and of stages: each law is the contract of an empty function.
-ghost use Rattle.std.specs.Prelude.{◌≡◌, ◌↔◌, ◌++◌, ◌∷◌, [], ℕ, List, Some, None, IsTrue, true, false};
-ghost use Rattle.std.specs.List.{list_all, list_any};
+ghost use Rattle.std.specs.Prelude.{◌≡◌, ◌↔◌, ◌++◌, ◌∷◌, [], ℕ, List, Some, None, IsTrue, false};
+ghost use Rattle.std.specs.List.{list_all};
 ghost use Rattle.std.specs.Str.{all_scalars};
 ghost use Rattle.std.specs.declared.cmp.Ordering.TheVariants.{Equal};
-ghost use Rattle.hub_path.specs.Path.{Path, is_over, is_path, path_of};
+ghost use Rattle.hub_path.specs.Path.{Path, is_path, path_of};
 ghost use Rattle.hub_automaton.specs.Alphabet.{IsAlphabet, class_of, is_path_character};
 ghost use Rattle.hub_profile.specs.Parts.{Parts, IsProfile};
-ghost use Rattle.hub_reach.specs.Apart.{are_near};
+ghost use Rattle.hub_reach.specs.Apart.{are_near, ReachApart};
 ghost use Rattle.hub_reach.specs.Mention.{Mentions};
 ghost use Rattle.hub_profile.specs.declared.verb.Verb.{Verb};
 ghost use Rattle.hub_reach.specs.Reach.{reach};
 ghost use Rattle.hub_reach.specs.Shape.{is_broken, is_named, is_text_character, shape_of};
-ghost use Rattle.hub_reach.specs.Stage.{is_broken_stage, stage_of, GoAlike};
-ghost use Rattle.hub_reach.specs.Walk.{is_walked};
+ghost use Rattle.hub_reach.specs.Stage.{is_broken_stage, stage_of, GoAlike, OfOneStage, LeadToOneStage};
+ghost use Rattle.hub_reach.specs.Walk.{is_walked, OfPathBetween};
 ghost use Rattle.hub_reach.specs.Bars.{AllowsAlike};
+ghost use Rattle.hub_reach.specs.Hashed.{EqualHashAlike};
 
 use crate::shape::Shape;
 use crate::stage::Stage;
@@ -35,15 +36,15 @@ pub fn walks_are_reach()
 
 /// A path between a kept value and a reached path is reached.
 pub fn what_is_between_is_reached()
-    ensures { (P : Parts) (x y : Path) → IsProfile P → IsTrue (reach P y) → IsTrue (is_over x y)
-        → list_any (λ s. is_over s x) P.paths ≡ true → IsTrue (is_path x) → IsTrue (reach P x) }
+    ensures { (P : Parts) (x y : Path) → IsProfile P
+        → OfPathBetween P x y (IsTrue (is_path x) → IsTrue (reach P x)) }
 {}
 
 /// Where no kept value of one profile is over one of another, or the other way round, nothing that the first one reaches is over
 /// something that the other one reaches, whatever is ignored.
 pub fn values_apart_reach_apart()
-    ensures { (P Q : Parts) (p q : Path) → are_near P.paths Q.paths ≡ false → IsTrue (is_over p q)
-        → IsTrue (reach P p) → IsTrue (reach Q q) → ⊥ }
+    ensures { (P Q : Parts) (p q : Path) → are_near P.paths Q.paths ≡ false
+        → ReachApart P Q p q }
 {}
 
 /// The path of a text is a path exactly when the text's shape is `Named`.
@@ -75,12 +76,11 @@ pub fn stages_tell_broken_texts()
 /// If two texts lead to the same stage, they still do after any text is appended to both, their paths are reached
 /// alike, and the same changes are allowed there. Characters of one class lead to the same stage, if the alphabet mentions what the profile does.
 pub fn stages_go_on_alike()
-    ensures same { (P : Parts) (t u : List ℕ) (x : ℕ) → IsProfile P → stage_of P t ≡ stage_of P u
-        → stage_of P (t ++ x ∷ []) ≡ stage_of P (u ++ x ∷ []) }
-    ensures followed { (P : Parts) (t u v : List ℕ) → IsProfile P → stage_of P t ≡ stage_of P u
-        → stage_of P (t ++ v) ≡ stage_of P (u ++ v) }
-    ensures reached { (P : Parts) (t u : List ℕ) → IsProfile P → stage_of P t ≡ stage_of P u
-        → reach P (path_of t) ≡ reach P (path_of u) }
+    ensures same { (P : Parts) (t u : List ℕ) (x : ℕ)
+        → OfOneStage P t u (LeadToOneStage P t u (x ∷ [])) }
+    ensures followed { (P : Parts) (t u v : List ℕ) → OfOneStage P t u (LeadToOneStage P t u v) }
+    ensures reached { (P : Parts) (t u : List ℕ)
+        → OfOneStage P t u (reach P (path_of t) ≡ reach P (path_of u)) }
     ensures allowed { (P : Parts) (t u : List ℕ) (r : Path) (verb : Verb) → IsProfile P
         → stage_of P t ≡ stage_of P u → IsTrue (is_path (path_of t))
         → AllowsAlike P r verb (path_of t) (path_of u) }
@@ -111,8 +111,7 @@ pub fn text_characters_have_classes()
 pub fn shapes_compare_exactly()
     ensures equal { (x y : Shape) → IsTrue (⟦<Shape as PartialEq>⟧.eq x y) ↔ (x ≡ y) }
     ensures tied { (x y : Shape) → (⟦<Shape as Ord>⟧.cmp x y ≡ Equal) ↔ (x ≡ y) }
-    ensures hashed { (x y : Shape) → IsTrue (⟦<Shape as PartialEq>⟧.eq x y)
-        → ⟦<Shape as Hash>⟧.hash_input x ≡ ⟦<Shape as Hash>⟧.hash_input y }
+    ensures hashed { EqualHashAlike ⟦<Shape as PartialEq>⟧.eq ⟦<Shape as Hash>⟧.hash_input }
 {}
 
 /// `==` holds of two stages exactly when their values are equal, and the order says `Equal` exactly then.
@@ -120,8 +119,7 @@ pub fn shapes_compare_exactly()
 pub fn stages_compare_exactly()
     ensures equal { (x y : Stage) → IsTrue (⟦<Stage as PartialEq>⟧.eq x y) ↔ (x ≡ y) }
     ensures tied { (x y : Stage) → (⟦<Stage as Ord>⟧.cmp x y ≡ Equal) ↔ (x ≡ y) }
-    ensures hashed { (x y : Stage) → IsTrue (⟦<Stage as PartialEq>⟧.eq x y)
-        → ⟦<Stage as Hash>⟧.hash_input x ≡ ⟦<Stage as Hash>⟧.hash_input y }
+    ensures hashed { EqualHashAlike ⟦<Stage as PartialEq>⟧.eq ⟦<Stage as Hash>⟧.hash_input }
 {
     spots_compare_exactly();
 }

@@ -1,7 +1,7 @@
 //! The characters that profiles mention.
-ghost use Rattle.std.specs.Prelude.{◌≡◌, ℕ, List, IsTrue, IfErr, OnOk, OnErr};
-ghost use Rattle.hub_automaton.specs.Alphabet.{mentions, with_characters, RefusesCharacters};
-ghost use Rattle.hub_reach.specs.Mention.{Mentions, mentioned_by, IsPartly};
+ghost use Rattle.std.specs.Prelude.{◌≡◌, IfErr, OnOk, OnErr};
+ghost use Rattle.hub_automaton.specs.Alphabet.{with_characters, RefusesCharacters};
+ghost use Rattle.hub_reach.specs.Mention.{Mentions, mentioned_by, IsPartly, StillMentions};
 
 use crate::mentioning::mention_each;
 use hub_automaton::laws::what_is_added_is_mentioned;
@@ -17,8 +17,7 @@ pub fn mention(alphabet: &mut Alphabet, profile: &Profile) -> Result<(), Automat
     ensures ok { OnOk result (alphabet.new
         ≡ with_characters alphabet.old (mentioned_by profile.now)) }
     ensures mentioned { OnOk result (Mentions alphabet.new profile.now) }
-    ensures kept { OnOk result ((cs : List ℕ) → IsTrue (mentions alphabet.old cs)
-        → IsTrue (mentions alphabet.new cs)) }
+    ensures kept { OnOk result (StillMentions alphabet.old alphabet.new) }
     ensures err { IfErr result (RefusesCharacters alphabet.old (mentioned_by profile.now)) }
     ensures partly { OnErr result (IsPartly alphabet.old (mentioned_by profile.now) alphabet.new) }
 {

@@ -1,10 +1,11 @@
 //! Which paths a profile reaches.
-ghost use Rattle.std.specs.Prelude.{◌≡◌, ◌≤◌, ◌&&◌, ◌||◌, not, false, length, take, IsTrue};
+ghost use Rattle.std.specs.Prelude.{◌≡◌, ◌≤◌, ◌&&◌, false, length, take, IsTrue};
 ghost use Rattle.std.specs.List.{list_any};
 ghost use Rattle.hub_path.specs.Path.{is_over};
 ghost use Rattle.hub_glob.specs.Glob.{matches};
 ghost use Rattle.hub_automaton.specs.Spots.{is_below_kind};
 ghost use Rattle.hub_reach.specs.Reach.{reach, is_open, is_ignored};
+ghost use Rattle.hub_reach.specs.forms.Tried.{any_matches_below, is_tried};
 
 use hub_glob::{Kind, PathSpec};
 use hub_path::RelPath;
@@ -57,8 +58,7 @@ fn is_open(profile: &Profile, kept: &RelPath, path: &RelPath) -> bool
 /// `below` may be false where none in `ignore` matches the path, and then none is tried.
 fn is_ignored(profile: &Profile, path: &RelPath, len: usize, below: bool) -> bool
     requires within { len ≤ length path.now }
-    requires below { below ≡ false → list_any
-        (λ s. is_below_kind s.kind && matches s path.now) profile.now.ignore ≡ false }
+    requires below { below ≡ false → any_matches_below profile.now.ignore path.now ≡ false }
     ensures { result ≡ is_ignored profile.now (take len path.now) }
 {
     is_matched(profile.ignore(), path, len, below)
@@ -67,7 +67,7 @@ fn is_ignored(profile: &Profile, path: &RelPath, len: usize, below: bool) -> boo
 
 /// Returns whether one of these is a `BelowPath` that matches the path.
 fn is_below(specs: &[PathSpec], path: &RelPath) -> bool
-    ensures { result ≡ list_any (λ s. is_below_kind s.kind && matches s path.now) specs.now }
+    ensures { result ≡ any_matches_below specs.now path.now }
 {
     specs.iter().any(|spec| is_matched_below(spec, path))
 }
@@ -84,8 +84,7 @@ fn is_matched_below(spec: &PathSpec, path: &RelPath) -> bool
 /// Returns whether one of these matches the path of the first `len` names. Each `BelowPath` is tried only if `below` says so.
 fn is_matched(specs: &[PathSpec], path: &RelPath, len: usize, below: bool) -> bool
     requires within { len ≤ length path.now }
-    requires below { below ≡ false → list_any
-        (λ s. is_below_kind s.kind && matches s path.now) specs.now ≡ false }
+    requires below { below ≡ false → any_matches_below specs.now path.now ≡ false }
     ensures { result ≡ list_any (λ s. matches s (take len path.now)) specs.now }
 {
     any_matched(specs, path, len, below)
@@ -93,8 +92,7 @@ fn is_matched(specs: &[PathSpec], path: &RelPath, len: usize, below: bool) -> bo
 
 fn any_matched(specs: &[PathSpec], path: &RelPath, len: usize, below: bool) -> bool
     requires { len ≤ length path.now }
-    ensures { result ≡ list_any (λ s. (below || not (is_below_kind s.kind))
-        && matches s (take len path.now)) specs.now }
+    ensures { result ≡ list_any (λ s. is_tried below s && matches s (take len path.now)) specs.now }
 {
     specs
         .iter()
@@ -103,8 +101,7 @@ fn any_matched(specs: &[PathSpec], path: &RelPath, len: usize, below: bool) -> b
 
 fn is_matched_front(spec: &PathSpec, path: &RelPath, len: usize, below: bool) -> bool
     requires { len ≤ length path.now }
-    ensures { result ≡ ((below || not (is_below_kind spec.now.kind))
-        && matches spec.now (take len path.now)) }
+    ensures { result ≡ (is_tried below spec.now && matches spec.now (take len path.now)) }
 {
     match spec.kind() {
         Kind::BelowPath if !below => false,

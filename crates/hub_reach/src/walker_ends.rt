@@ -1,10 +1,7 @@
 //! The choices of a walker as masks of its rows.
-ghost use Rattle.std.specs.Prelude.{◌≡◌, ◌<◌, ◌&&◌, ℕ, List, length, map, IfOk};
-ghost use Rattle.hub_automaton.specs.declared.alternatives.Alternatives.{Alternatives};
-ghost use Rattle.hub_automaton.specs.Spots.{state_after, some_match};
-ghost use Rattle.hub_reach.specs.WalkerEnds.{AreEndsOf, bar_ends, HasBarEnds, is_ignored_by};
-ghost use Rattle.hub_reach.specs.declared.placed_bar.PlacedBar.{PlacedBar};
-ghost use Rattle.hub_reach.specs.declared.ranges.SpecRanges.{SpecRanges};
+ghost use Rattle.std.specs.Prelude.{◌≡◌, ◌<◌, length, map, IfOk};
+ghost use Rattle.hub_automaton.specs.Spots.{some_match};
+ghost use Rattle.hub_reach.specs.WalkerEnds.{AreEndsOf, bar_ends, is_ignored_by, SaysByEnds, SaysBarMatches};
 
 use crate::placed_bar::PlacedBar;
 use crate::ranges::SpecRanges;
@@ -39,17 +36,15 @@ impl WalkerEnds {
 
     /// Returns whether a pattern of `ignore` matches the text of the state, and none of `ignorenot` does.
     pub(crate) fn ignore(&self, spots: &Spots) -> bool
-        ensures { (ls : List Alternatives) (a : SpecRanges) (t : List ℕ) → AreEndsOf ls a self.now
-            → spots.now ≡ state_after ls t
-            → result ≡ is_ignored_by ls a t }
+        ensures { SaysByEnds self.now spots.now is_ignored_by result }
     {
         spots.meets(&self.ignore) && !spots.meets(&self.ignorenot)
     }
 
     /// Returns whether the text of the state is that of a kept value.
     pub(crate) fn keep(&self, spots: &Spots) -> bool
-        ensures { (ls : List Alternatives) (a : SpecRanges) (t : List ℕ) → AreEndsOf ls a self.now
-            → spots.now ≡ state_after ls t → result ≡ some_match ls t a.ignorenot_end a.kept_end }
+        ensures { SaysByEnds self.now spots.now
+            (λ ls a t. some_match ls t a.ignorenot_end a.kept_end) result }
     {
         spots.meets(&self.kept)
     }
@@ -57,9 +52,7 @@ impl WalkerEnds {
     /// Returns whether a choice of the partial bar with that number matches the text of the state.
     pub(crate) fn bar(&self, number: usize, spots: &Spots) -> bool
         requires { number < length self.now.barred.items }
-        ensures { (ls : List Alternatives) (t : List ℕ) → spots.now ≡ state_after ls t
-            → (b : PlacedBar) → HasBarEnds self.now number ls b
-            → result ≡ some_match ls t b.from b.to }
+        ensures { SaysBarMatches self.now number spots.now result }
     {
         spots.meets(&self.barred[number])
     }

@@ -1,12 +1,14 @@
 -- A merge of the Looks of both sides and the paths of an archive.
 use Rattle.std.specs.Prelude.{◌≡◌, Bool, not, ◌&&◌, List, [], ◌∷◌, map, Option, None, Some, if◌then◌else◌}
+use Rattle.std.specs.Map.Iter.{TakesFirst}
 use Rattle.std.specs.Ordering.{is_lt}
 use Rattle.hub_path.specs.Path.{Path, path_cmp, path_eq}
 use Rattle.hub_tree.specs.declared.contents.Mark.{Mark}
 use Rattle.hub_tree.specs.declared.contents.Mark.TheVariants as mark
-use Rattle.hub_reconcile.specs.Picture.{nothing_there}
+use Rattle.hub_reconcile.specs.Picture.{nothing_there, told_by}
 use Rattle.hub_reconcile.specs.Sight.{Sight}
 use Rattle.hub_reconcile.specs.View.{is_present}
+use Rattle.hub_reconcile.specs.declared.look.Look.{Look}
 use Rattle.hub_reconcile.specs.declared.old_mark.OldMark.{OldMark}
 use Rattle.hub_reconcile.specs.declared.row.Seen.{Seen}
 
@@ -74,3 +76,15 @@ is_other reached e = not (reached e.0) && is_present e.1
 pub record IsSeen (s : Sight) (seen : Seen) : Type 0 where
   pub mark : seen.mark ≡ s.mark
   pub others : seen.others ≡ s.others
+
+-- The least of the first paths of Looks at both sides, and of the mark that was taken.
+abbrev pub least_path : List Look → List Look → Option OldMark → Option Path
+least_path ls rs o =
+    least_first (seen_paths (told_by ls)) (seen_paths (told_by rs)) (paths_in (taken o))
+
+-- The mark that was taken, or the next one if that is of this path.
+abbrev pub TakesPast : Path → Option OldMark → List (Path × Mark) → Option OldMark
+    → List (Path × Mark) → Type 0
+TakesPast p first left result left_now =
+    (es : List (Path × Mark)) → TakesFirst told_mark es first left
+    → TakesFirst told_mark (past_of p es) result left_now

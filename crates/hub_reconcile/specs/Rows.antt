@@ -1,6 +1,6 @@
 -- Rows: what is known of a path on both sides and in the archive. Items are found by going through
 -- them once.
-use Rattle.std.specs.Prelude.{◌≡◌, Bool, true, not, ◌&&◌, ◌||◌, List, [], ◌∷◌, map, if◌then◌else◌}
+use Rattle.std.specs.Prelude.{◌≡◌, Bool, true, not, ◌&&◌, ◌||◌, List, [], ◌∷◌, ◌++◌, map, if◌then◌else◌}
 use Rattle.hub_path.specs.Path.{Path}
 use Rattle.hub_path.specs.declared.side.Side.{Side}
 use Rattle.hub_path.specs.declared.side.Side.TheVariants.{Left, Right}
@@ -8,8 +8,10 @@ use Rattle.hub_profile.specs.Parts.{Parts}
 use Rattle.hub_reach.specs.Reach.{reach}
 use Rattle.hub_tree.specs.declared.contents.Mark.{Mark}
 use Rattle.hub_reconcile.specs.Items.{other}
+use Rattle.hub_reconcile.specs.Merge.{told_marks}
 use Rattle.hub_reconcile.specs.Sync.{of_side}
 use Rattle.hub_reconcile.specs.View.{View, mark_eq, is_present}
+use Rattle.hub_reconcile.specs.declared.old_mark.OldMark.{OldMark}
 use Rattle.hub_reconcile.specs.declared.row.Row.{Row}
 use Rattle.hub_reconcile.specs.declared.row.Seen.{Seen}
 
@@ -37,6 +39,10 @@ is_anywhere r = is_present r.left.mark || is_present r.right.mark || is_present 
 -- A row counts if something is known of its path, and the profile reaches it.
 abbrev pub is_counted : Parts → Row → Bool
 is_counted P r = is_anywhere r && reach P r.path.now
+
+-- A row, if it counts.
+abbrev pub counted_of : Parts → Row → List Row
+counted_of P r = if is_counted P r then r ∷ [] else []
 
 -- The old mark of a row that doesn't count, with its path, if there is one.
 abbrev pub other_of : Parts → Row → List (Path × Mark)
@@ -66,3 +72,7 @@ AreRows V (r ∷ rs) = IsRow V r × AreRows V rs
 pub record AreRowsOf (V : View) (rs : List Row) : Type 0 where
   pub paths : paths_of rs ≡ V.paths
   pub rows : AreRows V rs
+
+-- The old mark of a row that doesn't count was added to those of others.
+abbrev pub AddsOther : Parts → Row → List OldMark → List OldMark → Type 0
+AddsOther P r before after = told_marks after ≡ told_marks before ++ other_of P r

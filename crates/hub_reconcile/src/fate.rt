@@ -34,8 +34,7 @@ pub(crate) fn fate_of(picture: &Picture, item: &Row, below: &[Row]) -> Result<Fa
 
 /// Returns what becomes of an item that comes from this side.
 fn fate_from(picture: &Picture, item: &Row, below: &[Row], from: Side) -> Result<Fate, AllocError>
-    ensures { IfOk result (λ f. f ≡ fates.fate_from picture.now.profile.now (shown picture.now)
-        item.now below.now from) }
+    ensures { IfOk result (λ f. f ≡ fates.fate_in picture.now item.now below.now from) }
 {
     if is_barred(picture.profile(), item, below, from) {
         return Ok(Fate::Skip(Reason::Barred));

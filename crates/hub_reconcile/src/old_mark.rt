@@ -1,9 +1,7 @@
 //! The marks of an archive, one after the other.
-ghost use Rattle.std.specs.Prelude.{◌≡◌, List};
+ghost use Rattle.std.specs.Prelude.{◌≡◌};
 ghost use Rattle.std.specs.Map.Iter.{TakesFirst};
 ghost use Rattle.std.specs.Option.{option_map};
-ghost use Rattle.hub_path.specs.Path.{Path};
-ghost use Rattle.hub_tree.specs.declared.contents.Mark.{Mark};
 ghost use Rattle.hub_reconcile.specs.Merge as merge;
 
 use hub_path::RelPath;
@@ -56,8 +54,7 @@ pub(crate) fn past_mark<'a>(
     marks: &mut Iter<'a, RelPath, Mark>,
     path: &RelPath,
 ) -> Option<OldMark<'a>>
-    ensures { (es : List (Path × Mark)) → TakesFirst merge.told_mark es first.entry marks.old
-        → TakesFirst merge.told_mark (merge.past_of path.now es) result marks.new }
+    ensures { merge.TakesPast path.now first.entry marks.old result marks.new }
 {
     match first {
         Some(old) if old.path == path => next_mark(marks),

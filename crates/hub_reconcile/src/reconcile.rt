@@ -1,13 +1,10 @@
 //! The items of a picture, their changes, and the new archive.
-ghost use Rattle.std.specs.Prelude.{◌≡◌, ◌++◌, ◌∷◌, [], IfOk, OnOk, filter};
-ghost use Rattle.std.specs.FinMap as fin;
+ghost use Rattle.std.specs.Prelude.{◌≡◌, ◌++◌, ◌∷◌, [], IfOk, OnOk};
 ghost use Rattle.std.specs.List.{flat_map};
-ghost use Rattle.hub_reach.specs.Reach.{reach};
 ghost use Rattle.hub_reconcile.specs.forms.Blocks as parts;
 ghost use Rattle.hub_reconcile.specs.Items as spec;
 ghost use Rattle.hub_reconcile.specs.Merge as merge;
-ghost use Rattle.hub_reconcile.specs.Shown.{shown};
-ghost use Rattle.hub_reconcile.specs.Sync as sync;
+ghost use Rattle.hub_reconcile.specs.Shown.{AreOtherMarks, next_archive_of, shown};
 
 use crate::block::{Block, blocks};
 use crate::change::Change;
@@ -49,8 +46,7 @@ pub fn plan(alloc: Global, picture: &Picture) -> Result<Items<Change>, AllocErro
 /// It has the source's marks at and below the items that aren't skipped, the old marks at and below those that are, the
 /// common marks at the other reached paths, and the old marks elsewhere.
 pub fn next_archive(alloc: Global, picture: &Picture) -> Result<Archive, AllocError>
-    ensures { IfOk result
-        (λ a. a ≡ sync.next_archive (shown picture.now) picture.now.archive.now) }
+    ensures { IfOk result (λ a. a ≡ next_archive_of picture.now) }
 {
     let table = table_of(alloc, picture)?;
     let blocks = blocks(alloc, picture, table.rows.as_slice())?;
@@ -65,8 +61,7 @@ pub fn items_and_archive(
     picture: &Picture,
 ) -> Result<(Items<Item>, Archive), AllocError>
     ensures items { IfOk result (λ both. both.0 ≡ spec.items (shown picture.now)) }
-    ensures archive { IfOk result
-        (λ both. both.1 ≡ sync.next_archive (shown picture.now) picture.now.archive.now) }
+    ensures archive { IfOk result (λ both. both.1 ≡ next_archive_of picture.now) }
 {
     let table = table_of(alloc, picture)?;
     let blocks = blocks(alloc, picture, table.rows.as_slice())?;
@@ -170,8 +165,8 @@ fn push_change(
     from: Side,
     mark: Mark,
 ) -> Result<(), AllocError>
-    ensures { OnOk result (changes.new.items ≡ changes.old.items
-        ++ spec.change (spec.other from) row.now.path.now mark ∷ []) }
+    ensures { OnOk result
+        (changes.new.items ≡ changes.old.items ++ parts.row_change from row.now mark ∷ []) }
 {
     let path = row.path.copy()?;
     changes.push(Change {
@@ -189,12 +184,9 @@ fn archive_of(
     others: &[OldMark],
     blocks: &[Block],
 ) -> Result<Archive, AllocError>
-    requires others { merge.told_marks others.now
-        ≡ filter (merge.is_other (reach picture.now.profile.now))
-        (fin.entries picture.now.archive.now) }
+    requires others { AreOtherMarks picture.now others.now }
     requires blocks { parts.IsPartition (shown picture.now) blocks.now }
-    ensures { IfOk result
-        (λ a. a ≡ sync.next_archive (shown picture.now) picture.now.archive.now) }
+    ensures { IfOk result (λ a. a ≡ next_archive_of picture.now) }
 {
     let _top = picture.archive().mark_at(&RelPath::top(alloc));
     let mut marks = ArchiveBuilder::new(alloc);

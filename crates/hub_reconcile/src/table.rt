@@ -1,12 +1,10 @@
 //! The rows of a picture: one for each path that counts, in the order of paths.
-ghost use Rattle.std.specs.Prelude.{◌≡◌, [], ◌∷◌, ◌++◌, IfOk, OnOk, filter, if◌then◌else◌};
-ghost use Rattle.std.specs.FinMap as fin;
+ghost use Rattle.std.specs.Prelude.{◌≡◌, [], ◌++◌, IfOk, OnOk, option_copied};
 ghost use Rattle.std.specs.Option.{option_map};
-ghost use Rattle.hub_reach.specs.Reach.{reach};
 ghost use Rattle.hub_reconcile.specs.Merge as merge;
 ghost use Rattle.hub_reconcile.specs.Picture.{told_by};
-ghost use Rattle.hub_reconcile.specs.Rows.{AreRowsOf, is_counted, other_of};
-ghost use Rattle.hub_reconcile.specs.Shown.{shown};
+ghost use Rattle.hub_reconcile.specs.Rows.{AddsOther, AreRowsOf, counted_of, is_counted};
+ghost use Rattle.hub_reconcile.specs.Shown.{AreOtherMarks, shown};
 
 use crate::look::Look;
 use crate::marks::is_present;
@@ -31,9 +29,7 @@ pub(crate) struct Table<'a> {
 /// Makes the table of a picture, by one pass over the Looks of both sides and the marks of the archive.
 pub(crate) fn table_of<'a>(alloc: Global, picture: &Picture<'a>) -> Result<Table<'a>, AllocError>
     ensures rows { IfOk result (λ t. AreRowsOf (shown picture.now) t.rows.items) }
-    ensures others { IfOk result (λ t. merge.told_marks t.others.items
-        ≡ filter (merge.is_other (reach picture.now.profile.now))
-        (fin.entries picture.now.archive.now)) }
+    ensures others { IfOk result (λ t. AreOtherMarks picture.now t.others.items) }
 {
     let mut table = Table {
         rows: Vec::new(alloc),
@@ -55,10 +51,10 @@ pub(crate) fn table_of<'a>(alloc: Global, picture: &Picture<'a>) -> Result<Table
 
 /// Adds a row, if it counts, and else the mark of its path, if the archive has one.
 fn add_row<'a>(table: &mut Table<'a>, profile: &Profile, row: Row<'a>) -> Result<(), AllocError>
-    ensures rows { OnOk result (table.new.rows.items ≡ table.old.rows.items
-        ++ (if is_counted profile.now row.entry then row.entry ∷ [] else [])) }
-    ensures others { OnOk result (merge.told_marks table.new.others.items
-        ≡ merge.told_marks table.old.others.items ++ other_of profile.now row.entry) }
+    ensures rows { OnOk result
+        (table.new.rows.items ≡ table.old.rows.items ++ counted_of profile.now row.entry) }
+    ensures others { OnOk result
+        (AddsOther profile.now row.entry table.old.others.items table.new.others.items) }
 {
     if counts(profile, &row) {
         table.rows.push(row)?;
@@ -77,9 +73,7 @@ fn least_path<'a>(
     right: &'a [Look<'a>],
     old: Option<OldMark<'a>>,
 ) -> Option<&'a RelPath>
-    ensures { option_map (λ p. p.now) result ≡ merge.least_first
-        (merge.seen_paths (told_by left.now)) (merge.seen_paths (told_by right.now))
-        (merge.paths_in (merge.taken old.entry)) }
+    ensures { option_map (λ p. p.now) result ≡ merge.least_path left.now right.now old.entry }
 {
     lesser(lesser(first_path(left), first_path(right)), path_of(old))
 }
@@ -97,8 +91,7 @@ fn first_path<'a>(looks: &'a [Look<'a>]) -> Option<&'a RelPath>
 
 /// The lesser of two paths, if there is one.
 fn lesser<'a>(a: Option<&'a RelPath>, b: Option<&'a RelPath>) -> Option<&'a RelPath>
-    ensures { option_map (λ p. p.now) result
-        ≡ merge.lesser (option_map (λ p. p.now) a.entry) (option_map (λ p. p.now) b.entry) }
+    ensures { option_copied result ≡ merge.lesser (option_copied a.entry) (option_copied b.entry) }
 {
     match (a, b) {
         (None, _) => b,

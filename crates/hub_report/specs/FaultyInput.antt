@@ -7,11 +7,12 @@ use Rattle.hub_bundle.specs.declared.input.InputFault.{InputFault}
 use Rattle.hub_bundle.specs.declared.sections.SectionFault.{SectionFault}
 use Rattle.hub_bundle.specs.declared.sections.SectionFault.TheVariants.{OfProfile, OfRules}
 use Rattle.hub_bundle.specs.declared.sections.SectionFault.TheVariants.{OfState, OfCertificates}
+use Rattle.hub_profile.specs.declared.fault.ProfileFault.{ProfileFault}
 use Rattle.hub_report.specs.declared.faulty_input.FaultyInput.{FaultyInput}
 use Rattle.hub_report.specs.declared.faulty_input.FaultyInput.TheVariants.{Unread, BadBundle}
 use Rattle.hub_report.specs.declared.faulty_input.FaultyInput.TheVariants.{BadSection}
 use Rattle.hub_report.specs.Faults.{bundle_fault_name, fault_line, input_fault_name}
-use Rattle.hub_report.specs.Faults.{section_fault_name}
+use Rattle.hub_report.specs.Faults.{profile_fault_name, section_fault_name}
 
 -- A line of the bundle or of a section, counted from the one below its heading.
 abbrev pub line_place : List ℕ → ℕ → List ℕ
@@ -25,6 +26,13 @@ section_place (OfProfile name f) = profile_place name f.line
 section_place (OfRules f) = line_place (codes "rules") f.line
 section_place (OfState f) = line_place (codes "state") f.line
 section_place (OfCertificates line) = line_place (codes "certificates") line
+
+-- The line of a fault of a profile of that name, and of a fault of any section.
+abbrev pub profile_fault_line : Name → ProfileFault → List ℕ
+profile_fault_line name f = fault_line (profile_place name f.line) (profile_fault_name f.fault)
+
+abbrev pub section_fault_line : SectionFault → List ℕ
+section_fault_line f = fault_line (section_place f) (section_fault_name f)
 
 -- The place of the fault of an input, and what the fault is called.
 abbrev pub fault_place_in : FaultyInput → List ℕ

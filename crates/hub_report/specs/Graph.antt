@@ -1,7 +1,8 @@
 -- The graph of a set for Graphviz: its profiles, their roots, and what clashes.
-use Rattle.std.specs.Prelude.{ℕ, ◌+◌, ◌==◌, Bool, false, ◌&&◌, ◌||◌, if◌then◌else◌}
+use Rattle.std.specs.Prelude.{ℕ, ◌+◌, ◌==◌, Bool, false, ◌||◌, if◌then◌else◌}
 use Rattle.std.specs.Prelude.{List, [], ◌∷◌, ◌++◌, Option, None, Some}
-use Rattle.std.specs.Prelude.{codes, chars, encode_utf8, encode_utf8_all}
+use Rattle.std.specs.Prelude.{codes, chars, encode_utf8, encode_utf8_all, map}
+use denote.Ref.{Bor}
 use Rattle.std.specs.BTreeSet.{insert_key}
 use Rattle.std.specs.Cmp.Lexicographic.{slice_cmp}
 use Rattle.std.specs.List.{flat_map, list_any}
@@ -90,11 +91,18 @@ box_style es i =
     if has_breach es i then codes ", color = red"
     else (if has_large_breach es i then codes ", color = red, style = dashed" else [])
 
+-- The lines of the profile of that number.
+abbrev pub lines_of_numbered : List CheckFault → ℕ → Parts → List ℕ
+lines_of_numbered es i P = lines_of_profile (box_style es i) P
+
 -- The lines of profiles, of which the first has this number.
 abbrev pub profile_lines : List CheckFault → ℕ → List Parts → List ℕ
 profile_lines es i [] = []
-profile_lines es i (P ∷ Ps) =
-    lines_of_profile (box_style es i) P ++ profile_lines es (i + 1) Ps
+profile_lines es i (P ∷ Ps) = lines_of_numbered es i P ++ profile_lines es (i + 1) Ps
+
+-- The texts that are borrowed.
+abbrev pub texts_in : List (Bor (List ℕ)) → List (List ℕ)
+texts_in ts = map (λ t. t.now) ts
 
 -- These texts, which are in the order of their bytes, with one more if it isn't there.
 abbrev pub with_new_text : List (List ℕ) → List ℕ → List (List ℕ)
@@ -117,6 +125,10 @@ folder_line root =
 
 abbrev pub folder : List ℕ → List ℕ
 folder root = folder_line (escaped root)
+
+-- The lines of the roots of these profiles.
+abbrev pub root_lines : List Parts → List ℕ
+root_lines Ps = flat_map folder (root_texts_of [] Ps)
 
 -- The red line that joins two profiles of these names, with a path; and the dashed one.
 unfoldable pub red_edge : List ℕ → List ℕ → List ℕ → List ℕ
@@ -190,5 +202,5 @@ abbrev pub graph_text : Members → List CheckFault → List ℕ
 graph_text S es =
     head_text
     ++ (profile_lines es 0 S.profiles
-    ++ (flat_map folder (root_texts_of [] S.profiles)
+    ++ (root_lines S.profiles
     ++ (joining_lines S.profiles es ++ codes "}\n")))

@@ -1,4 +1,5 @@
 pub mod Blocks
+pub mod Texts
 pub mod Pairs
 pub mod Refusal
 pub mod Run

@@ -1,7 +1,8 @@
 -- The lines of refusals.
-use Rattle.std.specs.Prelude.{ℕ, ◌+◌, Bool, true, false, ◌&&◌, ◌==◌, List, [], ◌∷◌, ◌++◌, slice_get, Option, Some, None, if◌then◌else◌, codes, encode_utf8_all}
+use Rattle.std.specs.Prelude.{◌≡◌, MatchOption, ℕ, ◌+◌, Bool, true, false, ◌&&◌, ◌==◌, List, [], ◌∷◌, slice_get, Option, Some, None, if◌then◌else◌, codes, encode_utf8_all}
 use Rattle.std.specs.List.{flat_map}
 use Rattle.std.specs.Fmt.{decimal}
+use denote.Ref.{Bor}
 use Rattle.hub_path.specs.Path.{Path, text_of, root_bytes}
 use Rattle.hub_path.specs.declared.side.Side.TheVariants.{Left, Right}
 use Rattle.hub_automaton.specs.declared.fault.AutomatonFault.{AutomatonFault}
@@ -51,6 +52,15 @@ abbrev pub shown_place_of : Option Parts → Place → List ℕ
 shown_place_of None place = []
 shown_place_of (Some W) place = shown_place W place
 
+-- The claim holds of the writer, if there is one.
+abbrev pub OfWriter : Option (Bor Parts) → (Option Parts → Type 0) → Type 0
+OfWriter writer C =
+    (W : Option Parts) → MatchOption writer (W ≡ None) (λ P. W ≡ Some P.now) → C W
+
+-- An archive, by its two roots.
+abbrev pub archive_text : Path → Path → List ℕ
+archive_text r s = joined (codes "archive of " ∷ root_bytes r ∷ codes " and " ∷ root_bytes s ∷ [])
+
 abbrev pub verb_text : Verb → List ℕ
 verb_text Create = codes "create"
 verb_text Update = codes "update"
@@ -89,9 +99,11 @@ breach_text name (Some R) number path =
     ∷ codes " at " ∷ root_bytes R.root
     ∷ codes ", rule " ∷ decimal number ∷ codes "\n" ∷ [])
 
+abbrev pub breach_at : List ℕ → List Rule → ℕ → Path → List ℕ
+breach_at name Rs number path = breach_text name (slice_get Rs number) number path
+
 abbrev pub breach_line : Members → ℕ → ℕ → Path → List ℕ
-breach_line S profile rule path =
-    breach_text (name_at S.profiles profile) (slice_get S.rules rule) rule path
+breach_line S profile rule path = breach_at (name_at S.profiles profile) S.rules rule path
 
 -- The line of a goal of that number that has more stages than are searched.
 abbrev pub too_large_line : ℕ → ℕ → List ℕ
@@ -132,24 +144,42 @@ line_of_goal gs (fault.NotClosed g k class) = goal_line (number_of gs g) (not_cl
 line_of_goal gs (fault.Accepting g k) = goal_line (number_of gs g) (accepting k)
 line_of_goal gs _ = []
 
+-- The same of profiles and rules.
+abbrev pub line_with_path : List Parts → List Rule → CheckFault → List ℕ
+line_with_path Ps Rs e = shown_line (record { profiles = Ps; rules = Rs }) e
+
+-- The line of two roots that are nested, of a certificate that no goal has, and of a line that is no
+-- certificate's.
+abbrev pub nested_line : Path → Path → List ℕ
+nested_line r s =
+    joined (codes "refused: NestedRoots " ∷ root_bytes r ∷ codes " and " ∷ root_bytes s ∷ codes "\n"
+    ∷ [])
+
+abbrev pub stray_line : ℕ → List ℕ
+stray_line i = joined (codes "refused: certificate " ∷ decimal i ∷ codes " Stray\n" ∷ [])
+
+abbrev pub bad_text_line : ℕ → List ℕ
+bad_text_line n =
+    joined (codes "fault: certificates line " ∷ decimal n ∷ codes ": BadText\n" ∷ [])
+
 -- The line of a fault, by what its numbers stand for: profiles, rules and goals.
 abbrev pub check_fault_line : Members → List Goal → CheckFault → List ℕ
 check_fault_line S gs fault.TooManyProfiles = codes "refused: TooManyProfiles\n"
 check_fault_line S gs (fault.SameName name) =
     joined (codes "refused: SameName " ∷ encode_utf8_all name ∷ codes "\n" ∷ [])
-check_fault_line S gs (fault.NestedRoots r s) =
-    joined (codes "refused: NestedRoots " ∷ root_bytes r ∷ codes " and " ∷ root_bytes s ∷ codes "\n"
-    ∷ [])
+check_fault_line S gs (fault.NestedRoots r s) = nested_line r s
 check_fault_line S gs (fault.Overlap w o place held path) =
     shown_line S (fault.Overlap w o place held path)
 check_fault_line S gs (fault.Breach p r path) = shown_line S (fault.Breach p r path)
-check_fault_line S gs (fault.Stray i) =
-    joined (codes "refused: certificate " ∷ decimal i ∷ codes " Stray\n" ∷ [])
-check_fault_line S gs (fault.BadText line) =
-    joined (codes "fault: certificates line " ∷ decimal line ∷ codes ": BadText\n" ∷ [])
+check_fault_line S gs (fault.Stray i) = stray_line i
+check_fault_line S gs (fault.BadText line) = bad_text_line line
 check_fault_line S gs (fault.AlphabetFault e) = alphabet_line e
 check_fault_line S gs fault.OutOfMemory = codes "fault: out of memory\n"
 check_fault_line S gs e = line_of_goal gs e
+
+-- The same of profiles and rules.
+abbrev pub line_of_fault : List Parts → List Rule → List Goal → CheckFault → List ℕ
+line_of_fault Ps Rs gs e = check_fault_line (record { profiles = Ps; rules = Rs }) gs e
 
 -- The line of a fault of a set.
 abbrev pub refusal_line : Members → CheckFault → List ℕ

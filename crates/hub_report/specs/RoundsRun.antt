@@ -12,6 +12,11 @@ abbrev pub error_text : Option RunError → List ℕ
 error_text None = []
 error_text (Some e) = error_line e
 
+-- What is written above the state: how many rounds there are, lines of jobs, and a reason.
+abbrev pub text_above : ℕ → List ℕ → List ℕ → List ℕ
+text_above rounds lines reason =
+    joined (codes "rounds " ∷ decimal rounds ∷ codes "\n" ∷ lines ∷ reason ∷ [])
+
 -- How many rounds there are, the lines of the jobs of those that were run, why the next one wasn't,
 -- and the state that they left.
 abbrev pub rounds_run_text : RoundsRun → List ℕ

@@ -1,6 +1,9 @@
 //! The lines of a graph that join profiles.
-ghost use Rattle.std.specs.Prelude.{◌≡◌, ◌++◌, not, string_bytes, IfOk, OnOk, Some};
+ghost use Rattle.std.specs.Prelude.{◌≡◌, not, string_bytes, IfOk, OnOk, Some};
+ghost use Rattle.hub_report.specs.Texts.{Gains};
 ghost use Rattle.hub_report.specs.Graph as graph;
+ghost use Rattle.hub_report.specs.Graph.{dashed_line, dashed_lines, joined_after, joined_by_red, joining_lines};
+ghost use Rattle.hub_report.specs.Graph.{overlap_edge, overlap_in, red_edge, red_line, red_lines, undecided_line};
 ghost use Rattle.hub_report.specs.Pairs as pairs;
 
 use crate::graph::{escaped, push_edge};
@@ -21,8 +24,7 @@ pub(crate) fn push_clashes(
     faults: &[CheckFault],
     profiles: &[Profile],
 ) -> Result<(), AllocError>
-    ensures { OnOk result (string_bytes text.new
-        ≡ string_bytes text.old ++ graph.joining_lines profiles.now faults.now) }
+    ensures { OnOk result (Gains text.old text.new (joining_lines profiles.now faults.now)) }
 {
     let mut joined = Vec::new(alloc);
     push_red_lines(alloc, text, &mut joined, faults, profiles)?;
@@ -37,10 +39,9 @@ fn push_red_lines(
     faults: &[CheckFault],
     profiles: &[Profile],
 ) -> Result<(), AllocError>
-    ensures text { OnOk result (string_bytes text.new
-        ≡ string_bytes text.old ++ graph.red_lines profiles.now joined.old.items faults.now) }
-    ensures joined { OnOk result (joined.new.items
-        ≡ graph.joined_by_red joined.old.items faults.now) }
+    ensures text { OnOk result (Gains text.old text.new
+        (red_lines profiles.now joined.old.items faults.now)) }
+    ensures joined { OnOk result (joined.new.items ≡ joined_by_red joined.old.items faults.now) }
 {
     for fault in faults {
         push_red_line(alloc, text, joined, profiles, fault)?;
@@ -56,10 +57,10 @@ fn push_red_line(
     profiles: &[Profile],
     fault: &CheckFault,
 ) -> Result<(), AllocError>
-    ensures text { OnOk result (string_bytes text.new
-        ≡ string_bytes text.old ++ graph.red_line profiles.now joined.old.items fault.now) }
+    ensures text { OnOk result (Gains text.old text.new
+        (red_line profiles.now joined.old.items fault.now)) }
     ensures joined { OnOk result (joined.new.items
-        ≡ graph.joined_after joined.old.items (graph.overlap_in fault.now)) }
+        ≡ joined_after joined.old.items (overlap_in fault.now)) }
 {
     match fault {
         CheckFault::Overlap {
@@ -89,8 +90,8 @@ fn push_dashed_lines(
     faults: &[CheckFault],
     profiles: &[Profile],
 ) -> Result<(), AllocError>
-    ensures { OnOk result (string_bytes text.new
-        ≡ string_bytes text.old ++ graph.dashed_lines profiles.now joined.old.items faults.now) }
+    ensures { OnOk result (Gains text.old text.new
+        (dashed_lines profiles.now joined.old.items faults.now)) }
 {
     for fault in faults {
         push_dashed_line(alloc, text, joined, profiles, undecided_in(fault))?;
@@ -106,9 +107,9 @@ fn push_dashed_line(
     profiles: &[Profile],
     pair: Option<Pair>,
 ) -> Result<(), AllocError>
-    ensures text { OnOk result (string_bytes text.new
-        ≡ string_bytes text.old ++ graph.dashed_line profiles.now joined.old.items pair) }
-    ensures joined { OnOk result (joined.new.items ≡ graph.joined_after joined.old.items pair) }
+    ensures text { OnOk result (Gains text.old text.new
+        (dashed_line profiles.now joined.old.items pair)) }
+    ensures joined { OnOk result (joined.new.items ≡ joined_after joined.old.items pair) }
 {
     match pair {
         Some(pair) => {
@@ -124,8 +125,7 @@ fn push_dashed_line(
 /// Joins two profiles. Returns whether they weren't joined before.
 fn join(joined: &mut Vec<Pair>, pair: Pair) -> Result<bool, AllocError>
     ensures new { IfOk result (λ b. b ≡ not (pairs.are_joined joined.old.items pair)) }
-    ensures joined { OnOk result (joined.new.items
-        ≡ graph.joined_after joined.old.items (Some pair)) }
+    ensures joined { OnOk result (joined.new.items ≡ joined_after joined.old.items (Some pair)) }
 {
     if are_joined(joined.as_slice(), pair) {
         Ok(false)
@@ -143,8 +143,7 @@ fn push_overlap(
     pair: Pair,
     path: &RelPath,
 ) -> Result<(), AllocError>
-    ensures { OnOk result (string_bytes text.new
-        ≡ string_bytes text.old ++ graph.overlap_edge profiles.now pair path.now) }
+    ensures { OnOk result (Gains text.old text.new (overlap_edge profiles.now pair path.now)) }
 {
     let writer = name_shown(alloc, profiles, pair.writer)?;
     let other = name_shown(alloc, profiles, pair.other)?;
@@ -159,8 +158,7 @@ fn push_undecided(
     profiles: &[Profile],
     pair: Pair,
 ) -> Result<(), AllocError>
-    ensures { OnOk result (string_bytes text.new
-        ≡ string_bytes text.old ++ graph.undecided_line profiles.now pair) }
+    ensures { OnOk result (Gains text.old text.new (undecided_line profiles.now pair)) }
 {
     let writer = name_shown(alloc, profiles, pair.writer)?;
     let other = name_shown(alloc, profiles, pair.other)?;
@@ -183,8 +181,7 @@ fn name_shown(alloc: Global, profiles: &[Profile], number: usize) -> Result<Stri
 /// Adds the red line that joins two profiles of these names, with a path.
 #[tactic(auto, unfolding(crate::specs::Graph::red_edge))]
 fn push_red_edge(text: &mut String, writer: &str, other: &str, path: &str) -> Result<(), AllocError>
-    ensures { OnOk result (string_bytes text.new
-        ≡ string_bytes text.old ++ graph.red_edge writer.now other.now path.now) }
+    ensures { OnOk result (Gains text.old text.new (red_edge writer.now other.now path.now)) }
 {
     push_all(
         text,

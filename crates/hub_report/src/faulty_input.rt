@@ -43,8 +43,7 @@ impl FaultyInput {
 
 /// The line of a fault of a section.
 fn section_fault_line(alloc: Global, fault: &SectionFault) -> Result<Blocks, AllocError>
-    ensures { IfOk result (λ t. bytes_in t ≡ names.fault_line
-        (spec.section_place fault.now) (names.section_fault_name fault.now)) }
+    ensures { IfOk result (λ t. bytes_in t ≡ spec.section_fault_line fault.now) }
 {
     match fault {
         SectionFault::OfProfile { profile, fault } => profile_fault_line(alloc, profile, fault),
@@ -67,9 +66,7 @@ fn profile_fault_line(
     profile: &Name,
     fault: &ProfileFault,
 ) -> Result<Blocks, AllocError>
-    ensures { IfOk result (λ t. bytes_in t ≡ names.fault_line
-        (spec.profile_place profile.now fault.now.line)
-        (names.profile_fault_name fault.now.fault)) }
+    ensures { IfOk result (λ t. bytes_in t ≡ spec.profile_fault_line profile.now fault.now) }
 {
     let section = format!(in alloc; "profile {profile}")?;
     let name = profile_fault_name(alloc, &fault.fault)?;

@@ -1,7 +1,8 @@
 //! A graph of a set for Graphviz: its profiles, their roots, and what clashes.
-ghost use Rattle.std.specs.Prelude.{◌≡◌, ◌++◌, [], map, string_bytes, IfOk, OnOk};
-ghost use Rattle.std.specs.List.{flat_map};
+ghost use Rattle.std.specs.Prelude.{◌≡◌, [], string_bytes, IfOk, OnOk};
+ghost use Rattle.hub_report.specs.Texts.{Gains};
 ghost use Rattle.hub_report.specs.Graph as graph;
+ghost use Rattle.hub_report.specs.Graph.{texts_in};
 
 use crate::edges::push_clashes;
 use crate::parts::push_all;
@@ -54,8 +55,8 @@ fn push_profiles(
     faults: &[CheckFault],
     profiles: &[Profile],
 ) -> Result<(), AllocError>
-    ensures { OnOk result (string_bytes text.new
-        ≡ string_bytes text.old ++ graph.profile_lines faults.now 0 profiles.now) }
+    ensures { OnOk result (Gains text.old text.new
+        (graph.profile_lines faults.now 0 profiles.now)) }
 {
     let mut number: usize = 0;
     for profile in profiles {
@@ -73,8 +74,8 @@ fn push_numbered(
     number: usize,
     profile: &Profile,
 ) -> Result<(), AllocError>
-    ensures { OnOk result (string_bytes text.new ≡ string_bytes text.old
-        ++ graph.lines_of_profile (graph.box_style faults.now number) profile.now) }
+    ensures { OnOk result (Gains text.old text.new
+        (graph.lines_of_numbered faults.now number profile.now)) }
 {
     push_profile(alloc, text, profile, box_style(faults, number))
 }
@@ -86,8 +87,8 @@ fn push_profile(
     profile: &Profile,
     style: &str,
 ) -> Result<(), AllocError>
-    ensures { OnOk result (string_bytes text.new
-        ≡ string_bytes text.old ++ graph.lines_of_profile style.now profile.now) }
+    ensures { OnOk result (Gains text.old text.new
+        (graph.lines_of_profile style.now profile.now)) }
 {
     let name = escaped(alloc, profile.name().text())?;
     let roots = profile.roots();
@@ -101,8 +102,7 @@ fn push_profile(
 /// Adds the box of a profile of that name.
 #[tactic(auto, unfolding(crate::specs::Graph::box_line))]
 fn push_box(text: &mut String, name: &str, style: &str) -> Result<(), AllocError>
-    ensures { OnOk result (string_bytes text.new
-        ≡ string_bytes text.old ++ graph.box_line style.now name.now) }
+    ensures { OnOk result (Gains text.old text.new (graph.box_line style.now name.now)) }
 {
     push_all(
         text,
@@ -121,8 +121,7 @@ fn push_box(text: &mut String, name: &str, style: &str) -> Result<(), AllocError
 /// Adds the line from a profile to a root.
 #[tactic(auto, unfolding(crate::specs::Graph::root_edge))]
 fn push_root_edge(text: &mut String, name: &str, root: &str) -> Result<(), AllocError>
-    ensures { OnOk result (string_bytes text.new
-        ≡ string_bytes text.old ++ graph.root_edge name.now root.now) }
+    ensures { OnOk result (Gains text.old text.new (graph.root_edge name.now root.now)) }
 {
     push_edge(text, name, "root", root, "color = gray50")
 }
@@ -136,8 +135,8 @@ pub(crate) fn push_edge(
     node: &str,
     style: &str,
 ) -> Result<(), AllocError>
-    ensures { OnOk result (string_bytes text.new
-        ≡ string_bytes text.old ++ graph.edge name.now kind.now node.now style.now) }
+    ensures { OnOk result (Gains text.old text.new
+        (graph.edge name.now kind.now node.now style.now)) }
 {
     push_all(
         text,
@@ -208,8 +207,7 @@ fn is_large_breach(subject: Subject, number: usize) -> bool
 
 /// Adds the line of each root of these profiles, in the order of their texts.
 fn push_roots(alloc: Global, text: &mut String, profiles: &[Profile]) -> Result<(), AllocError>
-    ensures { OnOk result (string_bytes text.new
-        ≡ string_bytes text.old ++ flat_map graph.folder (graph.root_texts_of [] profiles.now)) }
+    ensures { OnOk result (Gains text.old text.new (graph.root_lines profiles.now)) }
 {
     let roots = roots_of(alloc, profiles)?;
     for root in roots.iter() {
@@ -220,7 +218,7 @@ fn push_roots(alloc: Global, text: &mut String, profiles: &[Profile]) -> Result<
 
 /// The texts of the roots of these profiles, in their order.
 fn roots_of<'a>(alloc: Global, profiles: &'a [Profile]) -> Result<BTreeSet<&'a str>, AllocError>
-    ensures { IfOk result (λ s. map (λ r. r.now) s.keys ≡ graph.root_texts_of [] profiles.now) }
+    ensures { IfOk result (λ s. texts_in s.keys ≡ graph.root_texts_of [] profiles.now) }
 {
     let mut roots = BTreeSet::new(alloc);
     for profile in profiles {
@@ -231,8 +229,8 @@ fn roots_of<'a>(alloc: Global, profiles: &'a [Profile]) -> Result<BTreeSet<&'a s
 
 /// Inserts the two roots of a profile.
 fn insert_roots<'a>(roots: &mut BTreeSet<&'a str>, profile: &'a Profile) -> Result<(), AllocError>
-    ensures { OnOk result (map (λ r. r.now) roots.new.keys
-        ≡ graph.with_roots (map (λ r. r.now) roots.old.keys) profile.now) }
+    ensures { OnOk result (texts_in roots.new.keys
+        ≡ graph.with_roots (texts_in roots.old.keys) profile.now) }
 {
     let own = profile.roots();
     insert_root(roots, own[0].as_str())?;
@@ -241,8 +239,8 @@ fn insert_roots<'a>(roots: &mut BTreeSet<&'a str>, profile: &'a Profile) -> Resu
 
 /// Inserts a root.
 fn insert_root<'a>(roots: &mut BTreeSet<&'a str>, root: &'a str) -> Result<(), AllocError>
-    ensures { OnOk result (map (λ r. r.now) roots.new.keys
-        ≡ graph.with_new_text (map (λ r. r.now) roots.old.keys) root.now) }
+    ensures { OnOk result (texts_in roots.new.keys
+        ≡ graph.with_new_text (texts_in roots.old.keys) root.now) }
 {
     roots.insert(root)?;
     Ok(())
@@ -250,8 +248,7 @@ fn insert_root<'a>(roots: &mut BTreeSet<&'a str>, root: &'a str) -> Result<(), A
 
 /// Adds the line of a root.
 fn push_folder(alloc: Global, text: &mut String, root: &str) -> Result<(), AllocError>
-    ensures { OnOk result (string_bytes text.new
-        ≡ string_bytes text.old ++ graph.folder root.now) }
+    ensures { OnOk result (Gains text.old text.new (graph.folder root.now)) }
 {
     let shown = escaped(alloc, root)?;
     push_folder_line(text, shown.as_str())
@@ -260,8 +257,7 @@ fn push_folder(alloc: Global, text: &mut String, root: &str) -> Result<(), Alloc
 /// Adds the line of a root of this text.
 #[tactic(auto, unfolding(crate::specs::Graph::folder_line))]
 fn push_folder_line(text: &mut String, root: &str) -> Result<(), AllocError>
-    ensures { OnOk result (string_bytes text.new
-        ≡ string_bytes text.old ++ graph.folder_line root.now) }
+    ensures { OnOk result (Gains text.old text.new (graph.folder_line root.now)) }
 {
     push_all(
         text,
@@ -288,8 +284,7 @@ pub(crate) fn escaped(alloc: Global, text: &str) -> Result<String, AllocError>
 
 /// Adds a character, after a backslash if it is one or a quote.
 fn push_escaped(text: &mut String, character: char) -> Result<(), AllocError>
-    ensures { OnOk result (string_bytes text.new
-        ≡ string_bytes text.old ++ graph.in_quotes character) }
+    ensures { OnOk result (Gains text.old text.new (graph.in_quotes character)) }
 {
     if is_special(character) {
         text.push('\\')?;

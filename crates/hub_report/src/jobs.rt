@@ -1,6 +1,7 @@
 //! The lines that say what jobs did.
-ghost use Rattle.std.specs.Prelude.{◌≡◌, ◌++◌, IfOk, OnOk, string_bytes};
+ghost use Rattle.std.specs.Prelude.{◌≡◌, IfOk, OnOk, string_bytes};
 ghost use Rattle.std.specs.List.{flat_map};
+ghost use Rattle.hub_report.specs.Texts.{Gains};
 ghost use Rattle.hub_report.specs.Jobs as lines;
 
 use crate::parts::push_all;
@@ -28,8 +29,7 @@ pub fn lines_of_jobs(
 
 /// Adds the line of a job, and those of its items.
 fn push_job(text: &mut String, profile: &Profile, job: &JobEnd) -> Result<(), AllocError>
-    ensures { OnOk result (string_bytes text.new
-        ≡ string_bytes text.old ++ lines.job_lines profile.now job.now) }
+    ensures { OnOk result (Gains text.old text.new (lines.job_lines profile.now job.now)) }
 {
     let end = end_text(job.end);
     push_all(text, &["job ", profile.name().text(), " ", end, "\n"])?;
@@ -38,8 +38,8 @@ fn push_job(text: &mut String, profile: &Profile, job: &JobEnd) -> Result<(), Al
 
 /// Adds the lines of items.
 fn push_items(text: &mut String, roots: &[Root; 2], items: &[Item]) -> Result<(), AllocError>
-    ensures { OnOk result (string_bytes text.new
-        ≡ string_bytes text.old ++ flat_map (lines.item_line roots.now) items.now) }
+    ensures { OnOk result (Gains text.old text.new
+        (flat_map (lines.item_line roots.now) items.now)) }
 {
     for item in items {
         push_item(text, roots, item)?;
@@ -49,8 +49,7 @@ fn push_items(text: &mut String, roots: &[Root; 2], items: &[Item]) -> Result<()
 
 /// Adds the line of an item.
 fn push_item(text: &mut String, roots: &[Root; 2], item: &Item) -> Result<(), AllocError>
-    ensures { OnOk result (string_bytes text.new
-        ≡ string_bytes text.old ++ lines.item_line roots.now item.now) }
+    ensures { OnOk result (Gains text.old text.new (lines.item_line roots.now item.now)) }
 {
     let path = item.path.as_str();
     match item.fate {

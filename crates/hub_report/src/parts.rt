@@ -1,6 +1,7 @@
 //! Texts, one after another.
-ghost use Rattle.std.specs.Prelude.{◌≡◌, ◌++◌, IfOk, OnOk, string_bytes};
+ghost use Rattle.std.specs.Prelude.{◌≡◌, IfOk, OnOk, string_bytes};
 ghost use Rattle.std.specs.List.{flat_map};
+ghost use Rattle.hub_report.specs.Texts.{Gains};
 
 use std::alloc::{AllocError, Global};
 
@@ -15,8 +16,7 @@ pub fn joined(alloc: Global, parts: &[&str]) -> Result<String, AllocError>
 
 /// Adds these texts to a text, one after another.
 pub fn push_all(text: &mut String, parts: &[&str]) -> Result<(), AllocError>
-    ensures { OnOk result (string_bytes text.new
-        ≡ string_bytes text.old ++ flat_map (λ p. p.now) parts.now) }
+    ensures { OnOk result (Gains text.old text.new (flat_map (λ p. p.now) parts.now)) }
 {
     for part in parts {
         text.push_str(part)?;

@@ -1,8 +1,7 @@
 //! The answer to whether a profile reaches a path.
-ghost use Rattle.std.specs.Prelude.{◌≡◌, ◌∷◌, [], codes, IfOk};
+ghost use Rattle.std.specs.Prelude.{◌≡◌, IfOk};
 ghost use Rattle.hub_report.specs.Blocks.{bytes_in};
 ghost use Rattle.hub_report.specs.ReachAnswer as spec;
-ghost use Rattle.hub_report.specs.Refusal as lines;
 
 use crate::blocks::{Blocks, block_of};
 use crate::faults::{fault_line, path_fault_name};
@@ -49,8 +48,7 @@ impl ReachAnswer<'_> {
 
 /// The line that no profile has that name.
 fn no_profile_line(alloc: Global, name: &str) -> Result<Blocks, AllocError>
-    ensures { IfOk result (λ t.
-        bytes_in t ≡ lines.joined (codes "fault: no profile " ∷ name.now ∷ codes "\n" ∷ [])) }
+    ensures { IfOk result (λ t. bytes_in t ≡ spec.no_profile_line name.now) }
 {
     let line = joined(alloc, &["fault: no profile ", name, "\n"])?;
     Blocks::new(alloc, line.into_bytes())

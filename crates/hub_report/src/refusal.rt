@@ -1,11 +1,9 @@
 //! Refusals of profiles and rules, and the line of each.
-ghost use Rattle.std.specs.Prelude.{◌≡◌, ◌∷◌, [], IfOk, MatchOption, Option, None, Some, true, codes, slice_get, string_bytes};
-ghost use Rattle.std.specs.Fmt.{decimal};
-ghost use Rattle.hub_profile.specs.Parts.{Parts};
+ghost use Rattle.std.specs.Prelude.{◌≡◌, [], IfOk, Option, None, Some, true, string_bytes};
 ghost use Rattle.hub_cert.specs.Refused.{IsRefused};
 ghost use Rattle.hub_cert.specs.Set.{Members};
-ghost use Rattle.hub_path.specs.Path.{root_bytes};
 ghost use Rattle.hub_report.specs.Refusal as lines;
+ghost use Rattle.hub_report.specs.Refusal.{OfWriter};
 ghost use Rattle.hub_report.specs.Report as report;
 ghost use Rattle.hub_report.specs.Rounds.{clash_lines};
 
@@ -83,8 +81,8 @@ fn fault_line(
     goals: &[Goal],
     fault: &CheckFault,
 ) -> Result<String, AllocError>
-    ensures { IfOk result (λ t. string_bytes t ≡ lines.check_fault_line
-        (record { profiles = profiles.now; rules = rules.now }) goals.now fault.now) }
+    ensures { IfOk result (λ t. string_bytes t
+        ≡ lines.line_of_fault profiles.now rules.now goals.now fault.now) }
 {
     match fault {
         CheckFault::TooManyProfiles => String::from_str(alloc, "refused: TooManyProfiles\n"),
@@ -108,8 +106,8 @@ fn shown_line(
     rules: &[Rule],
     fault: &CheckFault,
 ) -> Result<String, AllocError>
-    ensures { IfOk result (λ t. string_bytes t ≡ lines.shown_line
-        (record { profiles = profiles.now; rules = rules.now }) fault.now) }
+    ensures { IfOk result (λ t. string_bytes t
+        ≡ lines.line_with_path profiles.now rules.now fault.now) }
 {
     match fault {
         CheckFault::Overlap {
@@ -147,9 +145,7 @@ fn line_of_goal(alloc: Global, goals: &[Goal], fault: &CheckFault) -> Result<Str
 }
 
 fn nested_line(alloc: Global, first: &Root, second: &Root) -> Result<String, AllocError>
-    ensures { IfOk result (λ t. string_bytes t ≡ lines.joined (codes "refused: NestedRoots "
-        ∷ root_bytes first.now ∷ codes " and "
-        ∷ root_bytes second.now ∷ codes "\n" ∷ [])) }
+    ensures { IfOk result (λ t. string_bytes t ≡ lines.nested_line first.now second.now) }
 {
     let first = first.text()?;
     let second = second.text()?;
@@ -206,8 +202,8 @@ pub(crate) fn name_at(profiles: &[Profile], number: usize) -> &str
 
 /// The writer's root at the place, or both roots for an archive.
 fn place_text(alloc: Global, writer: Option<&Profile>, place: Place) -> Result<String, AllocError>
-    ensures { (W : Option Parts) → MatchOption writer.entry (W ≡ None) (λ P. W ≡ Some P.now)
-        → IfOk result (λ t. string_bytes t ≡ lines.shown_place_of W place) }
+    ensures { OfWriter writer.entry
+        (λ W. IfOk result (λ t. string_bytes t ≡ lines.shown_place_of W place)) }
 {
     let Some(writer) = writer else {
         return Ok(String::new(alloc));
@@ -221,8 +217,7 @@ fn place_text(alloc: Global, writer: Option<&Profile>, place: Place) -> Result<S
 }
 
 fn archive_text(alloc: Global, left: &Root, right: &Root) -> Result<String, AllocError>
-    ensures { IfOk result (λ t. string_bytes t ≡ lines.joined (codes "archive of "
-        ∷ root_bytes left.now ∷ codes " and " ∷ root_bytes right.now ∷ [])) }
+    ensures { IfOk result (λ t. string_bytes t ≡ lines.archive_text left.now right.now) }
 {
     let left = left.text()?;
     let right = right.text()?;
@@ -241,7 +236,7 @@ fn breach_line(
     path: &RelPath,
 ) -> Result<String, AllocError>
     ensures { IfOk result (λ t. string_bytes t
-        ≡ lines.breach_text name.now (slice_get rules.now number) number path.now) }
+        ≡ lines.breach_at name.now rules.now number path.now) }
 {
     let Some(rule) = rules.get(number) else {
         return Ok(String::new(alloc));
@@ -335,15 +330,13 @@ fn accepting_line(alloc: Global, goal: usize, stage: usize) -> Result<String, Al
 }
 
 fn stray_line(alloc: Global, certificate: usize) -> Result<String, AllocError>
-    ensures { IfOk result (λ t. string_bytes t ≡ lines.joined
-        (codes "refused: certificate " ∷ decimal certificate ∷ codes " Stray\n" ∷ [])) }
+    ensures { IfOk result (λ t. string_bytes t ≡ lines.stray_line certificate) }
 {
     format!(in alloc; "refused: certificate {certificate} Stray\n")
 }
 
 fn bad_text_line(alloc: Global, line: usize) -> Result<String, AllocError>
-    ensures { IfOk result (λ t. string_bytes t ≡ lines.joined
-        (codes "fault: certificates line " ∷ decimal line ∷ codes ": BadText\n" ∷ [])) }
+    ensures { IfOk result (λ t. string_bytes t ≡ lines.bad_text_line line) }
 {
     format!(in alloc; "fault: certificates line {line}: BadText\n")
 }

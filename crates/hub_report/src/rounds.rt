@@ -1,6 +1,7 @@
 //! What clashes in a set, its rounds, and how these are written.
-ghost use Rattle.std.specs.Prelude.{◌≡◌, ◌++◌, length, string_bytes, IfOk, OnOk};
+ghost use Rattle.std.specs.Prelude.{◌≡◌, string_bytes, IfOk, OnOk};
 ghost use Rattle.std.specs.List.{flat_map};
+ghost use Rattle.hub_report.specs.Texts.{Gains};
 ghost use Rattle.hub_report.specs.Rounds as lines;
 
 use crate::parts::push_all;
@@ -43,8 +44,7 @@ fn push_rounds(
     text: &mut String,
     rounds: &[Items<Profile>],
 ) -> Result<(), AllocError>
-    ensures { OnOk result (string_bytes text.new
-        ≡ string_bytes text.old ++ lines.lines_of_rounds 1 rounds.now) }
+    ensures { OnOk result (Gains text.old text.new (lines.lines_of_rounds 1 rounds.now)) }
 {
     let mut number: usize = 0;
     for round in rounds {
@@ -57,8 +57,8 @@ fn push_rounds(
 
 /// Adds the lines of the profiles of a round.
 fn push_round(text: &mut String, number: &str, profiles: &[Profile]) -> Result<(), AllocError>
-    ensures { OnOk result (string_bytes text.new
-        ≡ string_bytes text.old ++ flat_map (lines.line_in number.now) profiles.now) }
+    ensures { OnOk result (Gains text.old text.new
+        (flat_map (lines.line_in number.now) profiles.now)) }
 {
     for profile in profiles {
         push_all(text, &["round ", number, " ", profile.name().text(), "\n"])?;
@@ -68,8 +68,7 @@ fn push_round(text: &mut String, number: &str, profiles: &[Profile]) -> Result<(
 
 /// Adds the lines of the profiles that are in no round.
 fn push_left(alloc: Global, text: &mut String, left: &[Placed]) -> Result<(), AllocError>
-    ensures { OnOk result (string_bytes text.new
-        ≡ string_bytes text.old ++ flat_map lines.left_line left.now) }
+    ensures { OnOk result (Gains text.old text.new (flat_map lines.left_line left.now)) }
 {
     for placed in left {
         push_placed(alloc, text, placed)?;
@@ -79,8 +78,7 @@ fn push_left(alloc: Global, text: &mut String, left: &[Placed]) -> Result<(), Al
 
 /// Adds the line of a profile that is in no round.
 fn push_placed(alloc: Global, text: &mut String, placed: &Placed) -> Result<(), AllocError>
-    ensures { OnOk result (string_bytes text.new
-        ≡ string_bytes text.old ++ lines.left_line placed.now) }
+    ensures { OnOk result (Gains text.old text.new (lines.left_line placed.now)) }
 {
     let name = placed.profile.name().text();
     match placed.placing {
@@ -102,8 +100,7 @@ fn push_reason(
     rule: usize,
     name: &str,
 ) -> Result<(), AllocError>
-    ensures { OnOk result (string_bytes text.new
-        ≡ string_bytes text.old ++ lines.rule_line reason.now rule name.now) }
+    ensures { OnOk result (Gains text.old text.new (lines.rule_line reason.now rule name.now)) }
 {
     let rule = format!(in alloc; "{rule}")?;
     push_all(text, &[reason, rule.as_str(), " ", name, "\n"])

@@ -1,8 +1,6 @@
 //! What the jobs of a set did and left, when they were run by rounds.
-ghost use Rattle.std.specs.Prelude.{◌≡◌, ◌∷◌, [], codes, string_bytes, IfOk};
-ghost use Rattle.std.specs.Fmt.{decimal};
+ghost use Rattle.std.specs.Prelude.{◌≡◌, string_bytes, IfOk};
 ghost use Rattle.hub_report.specs.Blocks.{bytes_in};
-ghost use Rattle.hub_report.specs.Refusal.{joined};
 ghost use Rattle.hub_report.specs.RoundsRun as spec;
 
 use crate::blocks::Blocks;
@@ -49,8 +47,8 @@ fn text_above(
     lines: String,
     reason: &str,
 ) -> Result<String, AllocError>
-    ensures { IfOk result (λ t. string_bytes t ≡ joined
-        (codes "rounds " ∷ decimal rounds ∷ codes "\n" ∷ string_bytes lines ∷ reason.now ∷ [])) }
+    ensures { IfOk result (λ t. string_bytes t
+        ≡ spec.text_above rounds (string_bytes lines) reason.now) }
 {
     let count = format!(in alloc; "rounds {rounds}\n")?;
     let mut text = lines;

@@ -1,5 +1,6 @@
 //! The lines for standard error: which two profiles count as clashing, since their goal was too large.
-ghost use Rattle.std.specs.Prelude.{◌≡◌, ◌++◌, IfOk, OnOk, string_bytes};
+ghost use Rattle.std.specs.Prelude.{◌≡◌, IfOk, OnOk, string_bytes};
+ghost use Rattle.hub_report.specs.Texts.{Gains};
 ghost use Rattle.hub_report.specs.Undecided as lines;
 
 use crate::pair::{Pair, are_joined};
@@ -56,8 +57,8 @@ fn push_new(
     profiles: &[Profile],
     pair: Option<Pair>,
 ) -> Result<(), AllocError>
-    ensures text { OnOk result (string_bytes text.new
-        ≡ string_bytes text.old ++ lines.new_line profiles.now told.old.items pair) }
+    ensures text { OnOk result (Gains text.old text.new
+        (lines.new_line profiles.now told.old.items pair)) }
     ensures told { OnOk result (told.new.items ≡ lines.told_after told.old.items pair) }
 {
     let Some(pair) = pair else {
@@ -87,8 +88,7 @@ fn push_line(
     number: usize,
     pair: Pair,
 ) -> Result<(), AllocError>
-    ensures { OnOk result (string_bytes text.new
-        ≡ string_bytes text.old ++ lines.line_after profiles.now number pair) }
+    ensures { OnOk result (Gains text.old text.new (lines.line_after profiles.now number pair)) }
 {
     if number < NAMED {
         push_pair(text, profiles, pair)
@@ -101,8 +101,7 @@ fn push_line(
 
 /// Adds the line that names two profiles.
 fn push_pair(text: &mut String, profiles: &[Profile], pair: Pair) -> Result<(), AllocError>
-    ensures { OnOk result (string_bytes text.new
-        ≡ string_bytes text.old ++ lines.pair_line profiles.now pair) }
+    ensures { OnOk result (Gains text.old text.new (lines.pair_line profiles.now pair)) }
 {
     let writer = name_at(profiles, pair.writer);
     let other = name_at(profiles, pair.other);

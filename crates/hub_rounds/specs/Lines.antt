@@ -1,5 +1,5 @@
 -- What lines say of which profiles. A line is a fault of the check.
-use Rattle.std.specs.Prelude.{◌≡◌, ◌==◌, ◌&&◌, ◌||◌, ℕ, Bool, true, false, if◌then◌else◌, List, Option, None, Some, Contains}
+use Rattle.std.specs.Prelude.{◌≡◌, ◌==◌, ◌&&◌, ◌||◌, ℕ, Bool, true, false, if◌then◌else◌, List, Option, None, Some, Contains, ◌⊎◌, ◌∷◌, IsTrue}
 use Rattle.std.specs.List.{find}
 use Rattle.hub_cert.specs.declared.fault.CheckFault.{CheckFault}
 use Rattle.hub_cert.specs.declared.fault.CheckFault.TheVariants as fault
@@ -9,6 +9,10 @@ use Rattle.hub_rounds.specs.declared.placing.Obstacle.{Obstacle}
 use Rattle.hub_rounds.specs.declared.placing.Obstacle.TheVariants.{Breach, TooLarge}
 use Rattle.hub_rounds.specs.declared.subject.Subject.{Subject}
 use Rattle.hub_rounds.specs.declared.subject.Subject.TheVariants.{Pair, Alone, Nothing}
+use Rattle.hub_cert.specs.Goals.{is_goal}
+use Rattle.hub_cert.specs.Set.{Members}
+use Rattle.hub_search.specs.Faults.{HasInductiveTexts, HasLine}
+use Rattle.hub_search.specs.Search.{IsFirstFault}
 
 -- A goal that is too large: both profiles of a clash count as clashing, and the profile of a breach
 -- as breaking the rule.
@@ -75,3 +79,12 @@ abbrev pub IsFirstReason : List CheckFault → ℕ → Obstacle → Type 0
 IsFirstReason es i (Breach r) =
     (e : CheckFault) × (first_breach es i ≡ Some e) × (subject_of e ≡ Alone i (Breach r))
 IsFirstReason es i (TooLarge r) = first_breach es i ≡ None
+
+-- Each goal of the set is ruled out, or has one of the lines.
+abbrev pub DecideEachGoal : Members → List CheckFault → Type 0
+DecideEachGoal S es = (g : Goal) → IsTrue (is_goal S g) → HasInductiveTexts S g ⊎ HasLine S es g
+
+-- The first line, if there is one, is a fault by which the check may refuse the set.
+abbrev pub BeginWithFirstFault : Members → List CheckFault → Type 0
+BeginWithFirstFault S es =
+    (e : CheckFault) (rest : List CheckFault) → es ≡ e ∷ rest → IsFirstFault S e

@@ -9,6 +9,7 @@ use Rattle.hub_rounds.specs.declared.placing.Placed.{Placed}
 use Rattle.hub_rounds.specs.declared.placing.Placing.{Placing}
 use Rattle.hub_rounds.specs.declared.placing.Placing.TheVariants.{Round, Unplaced}
 use Rattle.hub_rounds.specs.declared.rounds.Rounds.{Rounds}
+use Rattle.hub_profile.specs.declared.rule.Rule.{Rule}
 
 -- A profile stands in this round; in some round; and in no round below this number.
 abbrev pub is_in_round : ℕ → Placing → Bool
@@ -88,9 +89,22 @@ pub record AreRivals (es : List CheckFault) (ps : List Placed) (ns : List ℕ) :
 abbrev pub HasJoined : List CheckFault → List Placed → List ℕ → ℕ → Type 0
 HasJoined es ps ns i = Contains ns i ⊎ (MayJoin es ps ns i → ⊥)
 
+-- Each profile that was one of the old ones, or might not join them, is one of the new ones, or may
+-- not join these.
+abbrev pub KeepsJoined : List CheckFault → List Placed → List ℕ → List ℕ → Type 0
+KeepsJoined es ps old new = (i : ℕ) → HasJoined es ps old i → HasJoined es ps new i
+
 -- No other profile may join these.
 abbrev pub AreWhole : List CheckFault → List Placed → List ℕ → Type 0
 AreWhole es ps ns = (i : ℕ) → (Contains ns i → ⊥) → MayJoin es ps ns i → ⊥
+
+-- So many rounds, each with its profiles; and each of them is a safe set together with the rules.
+abbrev pub rounds_of : ℕ → List Placed → List (List Parts)
+rounds_of count ps = map (λ k. profiles_in_round k ps) (range_with_len 0 count)
+
+abbrev pub AreSafeRounds : ℕ → List Placed → List Rule → Type 0
+AreSafeRounds count ps Rs =
+    (k : ℕ) → k < count → IsSafeSet (record { profiles = profiles_in_round k ps; rules = Rs })
 
 -- The profiles of a set are cut into rounds by these lines. Each stands in exactly one place: in a
 -- round if no line is about it alone, else left out for a reason that such a line gives. No two of a

@@ -1,11 +1,10 @@
 //! What clashes in a set.
-ghost use Rattle.std.specs.Prelude.{◌≡◌, ◌⊎◌, ◌∷◌, [], List, Contains, IfOk, IsTrue};
-ghost use Rattle.hub_cert.specs.Goals.{is_goal};
+ghost use Rattle.std.specs.Prelude.{◌≡◌, [], List, Contains, IfOk};
 ghost use Rattle.hub_cert.specs.Set.{IsSafeSet};
 ghost use Rattle.hub_cert.specs.declared.fault.CheckFault.{CheckFault};
-ghost use Rattle.hub_cert.specs.declared.goal.Goal.{Goal};
-ghost use Rattle.hub_search.specs.Faults.{AreFaults, HasLine, HasInductiveTexts};
-ghost use Rattle.hub_search.specs.Search.{Disproves, IsFirstFault};
+ghost use Rattle.hub_search.specs.Faults.{AreFaults};
+ghost use Rattle.hub_search.specs.Search.{Disproves};
+ghost use Rattle.hub_rounds.specs.Lines.{BeginWithFirstFault, DecideEachGoal};
 
 use hub_cert::laws::{certificates_make_a_set_safe, goals_are_listed_once};
 use hub_cert::{CheckFault, ProfileSet};
@@ -51,10 +50,8 @@ pub fn clashes_of(alloc: Global, set: &ProfileSet) -> Result<Clashes, AllocError
     ensures lines { IfOk result (AreFaults set.now) }
     ensures disproved { IfOk result (λ es. (e : CheckFault) → Contains es e
         → Disproves set.now e) }
-    ensures rest { IfOk result (λ es. (g : Goal) → IsTrue (is_goal set.now g)
-        → HasInductiveTexts set.now g ⊎ HasLine set.now es g) }
-    ensures first { IfOk result (λ es. (e : CheckFault) (rest : List CheckFault)
-        → es ≡ e ∷ rest → IsFirstFault set.now e) }
+    ensures rest { IfOk result (DecideEachGoal set.now) }
+    ensures first { IfOk result (BeginWithFirstFault set.now) }
     ensures safe { IfOk result (λ es. es ≡ [] → IsSafeSet set.now) }
 {
     goals_are_listed_once();

@@ -1,9 +1,9 @@
 //! Profiles of which each two clash: each needs a round of its own.
-ghost use Rattle.std.specs.Prelude.{◌≡◌, ◌↔◌, ℕ, true, IfOk, OnOk};
+ghost use Rattle.std.specs.Prelude.{◌≡◌, ◌↔◌, true, IfOk, OnOk};
 ghost use Rattle.std.specs.List.{list_any};
 ghost use Rattle.hub_rounds.specs.Lines as said;
 ghost use Rattle.hub_rounds.specs.Lines.{HasPair, names_pair};
-ghost use Rattle.hub_rounds.specs.Rounds.{AreRivals, AreWhole, ClashesWithAll, HasJoined, IsInRound, MayJoin};
+ghost use Rattle.hub_rounds.specs.Rounds.{AreRivals, AreWhole, ClashesWithAll, HasJoined, IsInRound, MayJoin, KeepsJoined};
 
 use crate::colouring::{Turn, turns_by_clashes};
 use crate::named::Named;
@@ -119,8 +119,8 @@ fn join_surely(
     requires { AreRivals lines.now placed.now rivals.old.items }
     ensures rivals { OnOk result (AreRivals lines.now placed.now rivals.new.items) }
     ensures joined { OnOk result (HasJoined lines.now placed.now rivals.new.items profile) }
-    ensures before { OnOk result ((i : ℕ) → HasJoined lines.now placed.now rivals.old.items i
-        → HasJoined lines.now placed.now rivals.new.items i) }
+    ensures before { OnOk result
+        (KeepsJoined lines.now placed.now rivals.old.items rivals.new.items) }
 {
     if may_join_surely(rivals.as_slice(), lines, named, placed, profile) {
         rivals.push(profile)?;

@@ -1,8 +1,7 @@
 //! Rounds of a set.
-ghost use Rattle.std.specs.Prelude.{◌≡◌, ◌<◌, ℕ, not, filter, map, IfErr, IfOk, OnOk};
-ghost use Rattle.std.specs.List.{range_with_len};
+ghost use Rattle.std.specs.Prelude.{◌≡◌, not, filter, IfErr, IfOk, OnOk};
 ghost use Rattle.hub_cert.specs.Set.{IsSafeSet, Members};
-ghost use Rattle.hub_rounds.specs.Rounds.{AreRounds, is_in_round, is_outside, profiles_in_round};
+ghost use Rattle.hub_rounds.specs.Rounds.{AreRounds, is_in_round, is_outside, profiles_in_round, AreSafeRounds, rounds_of};
 ghost use Rattle.hub_rounds.specs.Unverified as unverified;
 ghost use Rattle.hub_rounds.specs.Unverified.{IsFaultBelow, IsFaultOf, IsRoundsFault, RefusesRound};
 
@@ -88,13 +87,11 @@ fn cut(
     count: usize,
     rules: Rules,
 ) -> Result<(Items<Items<Profile>>, Items<Placed>, Rules), RoundsFault>
-    ensures rounds { IfOk result
-        (λ r. r.0 ≡ map (λ k. profiles_in_round k placed.items) (range_with_len 0 count)) }
+    ensures rounds { IfOk result (λ r. r.0 ≡ rounds_of count placed.items) }
     ensures left { IfOk result
         (λ r. r.1 ≡ filter (λ p. is_outside count p.placing) placed.items) }
     ensures rules { IfOk result (λ r. r.2 ≡ rules) }
-    ensures safe { IfOk result (λ r. (k : ℕ) → k < count → IsSafeSet
-        (record { profiles = profiles_in_round k placed.items; rules = rules })) }
+    ensures safe { IfOk result (λ r. AreSafeRounds count placed.items rules) }
     ensures refused { IfErr result (IsFaultBelow count placed.items rules) }
 {
     let mut rest = placed;

@@ -14,6 +14,9 @@ use Rattle.hub_job.specs.JobValue.{JobValue}
 use Rattle.hub_job.specs.Outcome.{archive_of}
 use Rattle.hub_history.specs.Book.{BookValue}
 use Rattle.hub_job.specs.History.{entries_of, entries_at}
+use Rattle.hub_cert.specs.Set.{Members, forbidden_by}
+use Rattle.hub_schedule.specs.Promise.{IsAsPromised}
+use Rattle.hub_schedule.specs.Simulated.{IsPromised}
 use Rattle.hub_schedule.specs.Refusals.{first_missing}
 use Rattle.hub_schedule.specs.Ended.{ended_value}
 
@@ -48,6 +51,13 @@ OpensAs S Ps B = (B.profiles ≡ Ps) × (replica_at S B.root ≡ Some B.opening)
 abbrev pub books_at : List BookValue → Path → List BookValue
 books_at books r = filter (λ B. path_eq B.root r) books
 
+-- The root has this book alone; or it has no book, or several.
+abbrev pub IsOnlyBook : List BookValue → Path → BookValue → Type 0
+IsOnlyBook books r B = books_at books r ≡ B ∷ []
+
+abbrev pub HasNotOneBook : List BookValue → Path → Type 0
+HasNotOneBook books r = length (books_at books r) ≢ 1
+
 abbrev pub history_or_none : Option BookValue → List Entry
 history_or_none None = []
 history_or_none (Some B) = B.history
@@ -68,7 +78,7 @@ log_at jobs j = log_or_nothing (find (λ J. J.number == j) jobs)
 -- which was made for the set and the state. With a job that has the root, its entries in the root's
 -- history are those of its log there.
 abbrev pub Agrees : State → List Parts → List BookValue → List JobValue → Path × Option ℕ → Type 0
-Agrees S Ps books jobs (r, None) = (B : BookValue) × (books_at books r ≡ B ∷ []) × OpensAs S Ps B
+Agrees S Ps books jobs (r, None) = (B : BookValue) × IsOnlyBook books r B × OpensAs S Ps B
 Agrees S Ps books jobs (r, Some j) =
     (P : Parts) → slice_get Ps j ≡ Some P → IsTrue (has_root P r)
     → entries_of j (history_at books r) ≡ entries_at P r (log_at jobs j)
@@ -78,8 +88,8 @@ Agrees S Ps books jobs (r, Some j) =
 abbrev pub Disagrees : State → List Parts → List BookValue → List JobValue → Path × Option ℕ
     → Type 0
 Disagrees S Ps books jobs (r, None) =
-    (length (books_at books r) ≢ 1)
-    ⊎ ((B : BookValue) × (books_at books r ≡ B ∷ []) × ¬ (OpensAs S Ps B))
+    HasNotOneBook books r
+    ⊎ ((B : BookValue) × IsOnlyBook books r B × ¬ (OpensAs S Ps B))
 Disagrees S Ps books jobs (r, Some j) =
     (P : Parts) × (slice_get Ps j ≡ Some P) × IsTrue (has_root P r)
     × (entries_of j (history_at books r) ≢ entries_at P r (log_at jobs j))
@@ -154,6 +164,11 @@ abbrev pub log_shown : List Parts → List JobValue → Path → Option ℕ → 
 log_shown Ps jobs r None = []
 log_shown Ps jobs r (Some j) = log_of_job jobs r j (slice_get Ps j)
 
+abbrev pub mismatch_shown : List Parts → List BookValue → List JobValue → Path → Option ℕ
+    → RunFault
+mismatch_shown Ps books jobs r j =
+    fault.Mismatch r j (history_shown books r j) (log_shown Ps jobs r j)
+
 -- Why books and jobs aren't settled. The first of these that applies: a replica is missing; a
 -- number is inconsistent; a place is wrong. Or there is no memory.
 abbrev pub IsUnsettled : State → List Parts → List BookValue → List JobValue → RunFault → Type 0
@@ -182,3 +197,19 @@ abbrev pub EndAsTheyAre : List JobValue → Outcome → Type 0
 EndAsTheyAre jobs o =
     (k : ℕ) (J : JobValue) → slice_get jobs k ≡ Some J
     → slice_get o.jobs J.number ≡ Some (ended_value J)
+
+-- Books and jobs are compared with a set, or not settled.
+abbrev pub FitTogether : State → Members → List BookValue → List JobValue → Type 0
+FitTogether S M books jobs = AreCompared S M.profiles books jobs
+
+abbrev pub IsUnsettledIn : State → Members → List BookValue → List JobValue → RunFault → Type 0
+IsUnsettledIn S M books jobs = IsUnsettled S M.profiles books jobs
+
+-- The outcome is as promised for a set and its rules: with the histories of these books, and with
+-- some histories.
+abbrev pub IsAsPromisedBy : State → Members → List BookValue → Outcome → Type 0
+IsAsPromisedBy S M books =
+    IsAsPromised S M.profiles (map forbidden_by M.rules) (history_at books)
+
+abbrev pub IsPromisedFor : State → Members → Outcome → Type 0
+IsPromisedFor S M = IsPromised S M.profiles (map forbidden_by M.rules)

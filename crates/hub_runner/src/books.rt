@@ -1,8 +1,9 @@
 //! Books by their roots.
-ghost use Rattle.std.specs.Prelude.{◌≡◌, ◌≢◌, ◌↔◌, [], ◌∷◌, find, length, IsTrue, MatchOption};
+ghost use Rattle.std.specs.Prelude.{◌≡◌, ◌↔◌, [], find, length, IsTrue, MatchOption};
 ghost use Rattle.std.specs.Option.{option_map};
 ghost use Rattle.hub_path.specs.Path.{path_eq};
 ghost use Rattle.hub_runner.specs.Settling as spec;
+ghost use Rattle.hub_runner.specs.Settling.{HasNotOneBook, IsOnlyBook};
 
 use hub_cert::ProfileSet;
 use hub_history::Book;
@@ -12,9 +13,8 @@ use hub_state::State;
 
 /// Borrows the book of a root, if there is exactly one.
 pub(crate) fn only_book<'b, 'a>(books: &'b [Book<'a>], root: &Root) -> Option<&'b Book<'a>>
-    ensures { MatchOption result
-        (length (spec.books_at books.now root.now) ≢ 1)
-        (λ b. spec.books_at books.now root.now ≡ b.now ∷ []) }
+    ensures { MatchOption result (HasNotOneBook books.now root.now)
+        (λ b. IsOnlyBook books.now root.now b.now) }
 {
     if !has_one_book(books, root) {
         return None;

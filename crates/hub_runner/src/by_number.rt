@@ -1,8 +1,6 @@
 //! Books and jobs, put in order.
-ghost use Rattle.std.specs.Prelude.{◌≡◌, ◌<◌, length, slice_set, Some, IfOk, IsTrue, MatchOption, false};
-ghost use Rattle.std.specs.List.{list_any};
-ghost use Rattle.hub_reach.specs.Reach as of_reach;
-ghost use Rattle.hub_runner.specs.forms.Ordered.{AreInOrder, AreNumbered, AreTreesOf};
+ghost use Rattle.std.specs.Prelude.{◌≡◌, ◌<◌, length, slice_set, Some, IfOk, MatchOption};
+ghost use Rattle.hub_runner.specs.forms.Ordered.{AreInOrder, AreNumbered, AreTreesOf, IsRootIn, IsRootOf, Lacks, NoneHas};
 ghost use Rattle.hub_runner.specs.forms.Slots as spec;
 
 use crate::append::push;
@@ -33,10 +31,8 @@ pub(crate) fn trees_of<'a>(
 
 /// Borrows a root from the profiles, if one of them has it.
 fn find_root<'a>(profiles: &'a [Profile], root: &Root) -> Option<&'a Root>
-    ensures { MatchOption result
-        (list_any (λ P. of_reach.has_root P root.now) profiles.now ≡ false)
-        (λ own. (own.now ≡ root.now)
-        × IsTrue (list_any (λ P. of_reach.has_root P root.now) profiles.now)) }
+    ensures { MatchOption result (NoneHas profiles.now root.now)
+        (λ own. IsRootIn profiles.now root.now own.now) }
 {
     for profile in profiles {
         if let Some(own) = root_of(profile, root) {
@@ -48,9 +44,8 @@ fn find_root<'a>(profiles: &'a [Profile], root: &Root) -> Option<&'a Root>
 
 /// Borrows a root from a profile, if the profile has it.
 fn root_of<'a>(profile: &'a Profile, root: &Root) -> Option<&'a Root>
-    ensures { MatchOption result
-        (of_reach.has_root profile.now root.now ≡ false)
-        (λ own. (own.now ≡ root.now) × IsTrue (of_reach.has_root profile.now root.now)) }
+    ensures { MatchOption result (Lacks profile.now root.now)
+        (λ own. IsRootOf profile.now root.now own.now) }
 {
     let left = profile.root(Side::Left);
     if left == root {

@@ -1,6 +1,5 @@
 //! What the fault of a mismatch shows.
 ghost use Rattle.std.specs.Prelude.{◌≡◌, Some, IfOk};
-ghost use Rattle.hub_job.specs.declared.run_fault.RunFault.TheVariants.{Mismatch};
 ghost use Rattle.hub_runner.specs.Settling as spec;
 
 use crate::append::push;
@@ -25,9 +24,8 @@ pub(crate) fn mismatch(
     root: &Root,
     job: Option<usize>,
 ) -> Result<RunFault, AllocError>
-    ensures { IfOk result (λ f. f ≡ Mismatch root.now job
-        (spec.history_shown books.now root.now job)
-        (spec.log_shown profiles.now jobs.now root.now job)) }
+    ensures { IfOk result
+        (λ f. f ≡ spec.mismatch_shown profiles.now books.now jobs.now root.now job) }
 {
     let (history, log) = match job {
         Some(job) => (

@@ -1,8 +1,8 @@
 //! Runs of the jobs of a safe set, at the same time.
-ghost use Rattle.std.specs.Prelude.{◌≡◌, ◌⊎◌, ◌<◌, true, map, IfOk, IfErr};
-ghost use Rattle.hub_cert.specs.Set.{forbidden_by};
-ghost use Rattle.hub_schedule.specs.Simulated.{HaveEnded, IsPromised};
+ghost use Rattle.std.specs.Prelude.{◌≡◌, ◌⊎◌, ◌<◌, true, IfOk, IfErr};
+ghost use Rattle.hub_schedule.specs.Simulated.{HaveEnded};
 ghost use Rattle.hub_job.specs.declared.run_fault.RunFault.TheVariants as fault;
+ghost use Rattle.hub_runner.specs.Settling.{IsPromisedFor};
 ghost use Rattle.hub_runner.specs.Working.{AreEnded, IsNotRun, MayRun, is_ended};
 
 use crate::append::push;
@@ -47,8 +47,7 @@ pub fn run<G: Gate + Sync, R: Threads + Wait + Sync>(
     workers: usize,
     gate: &G,
 ) -> Result<Outcome, RunFault>
-    ensures promise { IfOk result (IsPromised state.now verified.now.profiles
-        (map forbidden_by verified.now.rules)) }
+    ensures promise { IfOk result (IsPromisedFor state.now verified.now) }
     ensures ended { IfOk result (λ o. HaveEnded o.jobs) }
     ensures run { IfOk result (λ o. MayRun state.now verified.now.profiles workers) }
     ensures refused { IfErr result (IsNotRun state.now verified.now.profiles workers) }
@@ -75,8 +74,7 @@ fn run_set<'a, G: Gate + Sync, R: Threads + Wait + Sync>(
     gate: &G,
 ) -> Result<Outcome, RunFault>
     requires { MayRun state.now verified.now.profiles workers }
-    ensures promise { IfOk result (IsPromised state.now verified.now.profiles
-        (map forbidden_by verified.now.rules)) }
+    ensures promise { IfOk result (IsPromisedFor state.now verified.now) }
     ensures ended { IfOk result (λ o. HaveEnded o.jobs) }
     ensures refused { IfErr result (IsNotRun state.now verified.now.profiles workers) }
 {

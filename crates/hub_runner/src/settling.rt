@@ -1,10 +1,9 @@
 //! What books and jobs leave that fit together.
-ghost use Rattle.std.specs.Prelude.{◌<◌, length, map, IfOk, IfErr};
-ghost use Rattle.hub_cert.specs.Set.{forbidden_by};
+ghost use Rattle.std.specs.Prelude.{◌<◌, length, IfOk, IfErr};
 ghost use Rattle.hub_state.specs.State.{IsState};
-ghost use Rattle.hub_schedule.specs.Promise.{IsAsIfAlone, IsAsPromised, Settles};
+ghost use Rattle.hub_schedule.specs.Promise.{IsAsIfAlone, Settles};
 ghost use Rattle.hub_schedule.specs.Settled.{AreProfiles};
-ghost use Rattle.hub_runner.specs.Settling.{AreCompared, EndAsTheyAre, IsUnsettled, history_at};
+ghost use Rattle.hub_runner.specs.Settling.{EndAsTheyAre, FitTogether, IsAsPromisedBy, IsUnsettledIn, history_at};
 
 use crate::by_number::{in_order, trees_of};
 use crate::comparison::find_mismatch;
@@ -43,15 +42,13 @@ pub fn settle<'a>(
 ) -> Result<Outcome, RunFault>
     ensures settled { IfOk result
         (Settles state.now verified.now.profiles (history_at books.entry.items)) }
-    ensures promise { IfOk result
-        (IsAsPromised state.now verified.now.profiles (map forbidden_by verified.now.rules)
-        (history_at books.entry.items)) }
+    ensures promise { IfOk result (IsAsPromisedBy state.now verified.now books.entry.items) }
     ensures alone { IfOk result (IsAsIfAlone state.now verified.now.profiles) }
-    ensures compared { IfOk result (λ o. AreCompared state.now verified.now.profiles
-        books.entry.items jobs.entry.items) }
+    ensures compared { IfOk result
+        (λ o. FitTogether state.now verified.now books.entry.items jobs.entry.items) }
     ensures ends { IfOk result (EndAsTheyAre jobs.entry.items) }
-    ensures refused { IfErr result (IsUnsettled state.now verified.now.profiles
-        books.entry.items jobs.entry.items) }
+    ensures refused { IfErr result
+        (IsUnsettledIn state.now verified.now books.entry.items jobs.entry.items) }
 {
     safe_sets_keep_their_promise();
     settle_jobs(alloc, verified.set(), state, books, jobs)
@@ -67,11 +64,11 @@ fn settle_jobs<'a>(
 ) -> Result<Outcome, RunFault>
     ensures settled { IfOk result
         (Settles state.now set.now.profiles (history_at books.entry.items)) }
-    ensures compared { IfOk result (λ o. AreCompared state.now set.now.profiles
-        books.entry.items jobs.entry.items) }
+    ensures compared { IfOk result
+        (λ o. FitTogether state.now set.now books.entry.items jobs.entry.items) }
     ensures ends { IfOk result (EndAsTheyAre jobs.entry.items) }
-    ensures refused { IfErr result (IsUnsettled state.now set.now.profiles
-        books.entry.items jobs.entry.items) }
+    ensures refused { IfErr result
+        (IsUnsettledIn state.now set.now books.entry.items jobs.entry.items) }
     ensures valid { 0 < length set.now.profiles → IsState state.now }
     ensures profiles { AreProfiles set.now.profiles }
 {
@@ -90,10 +87,8 @@ fn compare(
     books: &[Book<'_>],
     jobs: &[Job<'_>],
 ) -> Result<(), RunFault>
-    ensures compared { IfOk result (λ _. AreCompared state.now set.now.profiles
-        books.now jobs.now) }
-    ensures refused { IfErr result (IsUnsettled state.now set.now.profiles
-        books.now jobs.now) }
+    ensures compared { IfOk result (λ _. FitTogether state.now set.now books.now jobs.now) }
+    ensures refused { IfErr result (IsUnsettledIn state.now set.now books.now jobs.now) }
     ensures valid { 0 < length set.now.profiles → IsState state.now }
     ensures profiles { AreProfiles set.now.profiles }
 {
@@ -118,7 +113,7 @@ fn settle_all<'a>(
     books: Vec<Book<'_>>,
     jobs: Vec<Job<'a>>,
 ) -> Result<Outcome, AllocError>
-    requires { AreCompared state.now set.now.profiles books.items jobs.items }
+    requires { FitTogether state.now set.now books.items jobs.items }
     ensures settled { IfOk result
         (Settles state.now set.now.profiles (history_at books.entry.items)) }
     ensures ends { IfOk result (EndAsTheyAre jobs.entry.items) }

@@ -41,6 +41,11 @@ pub record AreEndedWith (S : State) (Ps : List Parts) (replica : Path → Replic
   pub roots : (k : ℕ) (t : WorkingTree) → slice_get trees k ≡ Some t
       → list_any (λ P. has_root P t.root.now) Ps ≡ true
 
+-- These are ended jobs of some profiles, with the replicas that they leave.
+abbrev pub AreEndedJobs : State → List JobValue → List WorkingTree → Type 0
+AreEndedJobs S jobs trees =
+    (Ps : List Parts) × (replica : Path → Replica) × AreEndedWith S Ps replica jobs trees
+
 -- A job with the numbers of its replicas.
 pub record IsSlotOf (trees : List WorkingTree) (J : JobValue) (s : Slot) : Type 0 where
   pub valid : IsProfile s.job.profile

@@ -57,15 +57,29 @@ AreAsAlone J replicas histories logs =
     (j : ℕ) (P : Parts) → slice_get J.profiles j ≡ Some P
     → IsAsAlone J replicas histories logs j P
 
--- It holds where histories and logs of jobs that don't clash fit together.
+-- The claim holds where histories and logs of jobs that don't clash fit together.
 abbrev pub OfSettled : (Jobs → Replicas → Histories → Logs → Type 0) → Type 0
 OfSettled C =
     (J : Jobs) (replicas : Replicas) (histories : Histories) (logs : Logs) → NoneClash J.profiles
     → AreProfiles J.profiles → IsSettled J replicas histories logs → C J replicas histories logs
 
--- It holds of a root of a job, where histories and logs fit together.
+-- The claim holds of a root of a job, where histories and logs fit together.
 abbrev pub AtRootsOfJobs : (Jobs → Replicas → Histories → Path → Type 0) → Type 0
 AtRootsOfJobs C =
     (J : Jobs) (replicas : Replicas) (histories : Histories) (logs : Logs) (j : ℕ) (P : Parts)
     (r : Path) → IsSettled J replicas histories logs → slice_get J.profiles j ≡ Some P
     → IsTrue (has_root P r) → C J replicas histories r
+
+-- The claim holds where they fit together, and jobs don't clash.
+abbrev pub OfApart : (Jobs → Replicas → Histories → Type 0) → Type 0
+OfApart C =
+    (J : Jobs) (replicas : Replicas) (histories : Histories) (logs : Logs) → NoneClash J.profiles
+    → IsSettled J replicas histories logs → C J replicas histories
+
+-- The claim holds of all turns of jobs, and of those of jobs that don't clash.
+abbrev pub OfRuns : (Jobs → Replicas → List ℕ → Type 0) → Type 0
+OfRuns C = (J : Jobs) (replicas : Replicas) (js : List ℕ) → C J replicas js
+
+abbrev pub OfApartRuns : (Jobs → Replicas → List ℕ → Type 0) → Type 0
+OfApartRuns C =
+    (J : Jobs) (replicas : Replicas) (js : List ℕ) → NoneClash J.profiles → C J replicas js

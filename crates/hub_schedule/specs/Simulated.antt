@@ -1,6 +1,5 @@
 -- What a schedule's outcome is, turn by turn.
-use Rattle.std.specs.Prelude.{◌≡◌, ◌≢◌, ◌<◌, ◌≤◌, ◌==◌, ◌*◌, ◌+◌, ℕ, List, length, replicate, slice_get, Some, count_by}
-use Rattle.std.specs.FinMap as fin
+use Rattle.std.specs.Prelude.{◌≡◌, ◌≢◌, ◌<◌, ◌≤◌, ◌==◌, ℕ, List, length, replicate, slice_get, Some, count_by}
 use Rattle.hub_path.specs.Path.{Path}
 use Rattle.hub_path.specs.declared.side.Side.{Side}
 use Rattle.hub_path.specs.declared.side.Side.TheVariants.{Left, Right}
@@ -13,7 +12,7 @@ use Rattle.hub_job.specs.declared.job_end.JobEnd.{JobEnd}
 use Rattle.hub_job.specs.declared.outcome.Outcome.{Outcome}
 use Rattle.hub_job.specs.declared.op.Next.TheVariants.{Finished}
 use Rattle.hub_job.specs.Job.{next, steps_made}
-use Rattle.hub_job.specs.Run.{root_at}
+use Rattle.hub_job.specs.Run.{root_at, turns_bound}
 use Rattle.hub_job.specs.World.{alone}
 use Rattle.hub_job.specs.Outcome.{archive_of, jobs_of, replicas_of}
 use Rattle.hub_reach.specs.Safe.{Rule}
@@ -24,17 +23,19 @@ use Rattle.hub_schedule.specs.Promise.{IsAsIfAlone, IsAsPromised, IsSynchronized
 abbrev pub turns_of : ℕ → List ℕ → ℕ
 turns_of j schedule = count_by (λ i. i == j) schedule
 
--- As many turns as any synchronization of a profile's two replicas takes: four for each kept value,
--- and three for each entry of the two replicas.
+-- As many turns as any synchronization of a profile's two replicas takes.
 abbrev pub turns_enough : State → Parts → ℕ
 turns_enough S P =
-    4 * length P.paths
-    + 3 * (fin.len (replicas_of S (root_at P Left)) + fin.len (replicas_of S (root_at P Right)))
+    turns_bound P (replicas_of S (root_at P Left)) (replicas_of S (root_at P Right))
 
 -- Each job of the profiles has so many turns in a schedule.
 abbrev pub AllHaveEnough : State → List Parts → List ℕ → Type 0
 AllHaveEnough S Ps schedule =
     (j : ℕ) (P : Parts) → slice_get Ps j ≡ Some P → turns_enough S P ≤ turns_of j schedule
+
+-- So many turns are enough for each job of the profiles.
+abbrev pub AreEnoughForAll : State → List Parts → ℕ → Type 0
+AreEnoughForAll S Ps n = (j : ℕ) (P : Parts) → slice_get Ps j ≡ Some P → turns_enough S P ≤ n
 
 -- Each job has ended.
 abbrev pub HaveEnded : List JobEnd → Type 0

@@ -11,17 +11,17 @@ use Rattle.hub_job.specs.declared.job_end.End.TheVariants as end
 use Rattle.hub_job.specs.declared.job_end.JobEnd.{JobEnd}
 use Rattle.hub_job.specs.declared.op.Next.TheVariants.{Finished, Stopped}
 use Rattle.hub_job.specs.Job.{is_ask, next, steps_made}
-use Rattle.hub_job.specs.Outcome.{archive_of, jobs_of, IsOutcomeWith}
+use Rattle.hub_job.specs.Outcome.{archive_of, jobs_of, replicas_of, IsOutcomeWith}
 use Rattle.hub_schedule.specs.Promise.{HasReplicas}
 use Rattle.hub_reach.specs.Reach.{has_root}
 use Rattle.hub_tree.specs.Tree.{Replica, Archive}
 use Rattle.hub_schedule.specs.declared.slot.Slot.{Slot}
 use Rattle.hub_schedule.specs.declared.slot.WorkingTree.{WorkingTree}
 use Rattle.hub_job.specs.declared.asked.Asked.{Asked}
-use Rattle.hub_job.specs.JobValue.{JobValue, new_job, with_answer}
+use Rattle.hub_job.specs.JobValue.{JobValue, new_job, stopped_job, with_answer}
 use Rattle.hub_job.specs.Machine.{after, answer}
 use Rattle.hub_job.specs.Run.{root_at}
-use Rattle.hub_job.specs.World.{World, Jobs, log_of, run, first_turns, turn}
+use Rattle.hub_job.specs.World.{World, Jobs, log_of, opening, run, first_turns, turn}
 
 abbrev pub place_on : Slot → Side → ℕ
 place_on s Left = s.left
@@ -44,6 +44,20 @@ IsTreeNumber trees r k = (t : WorkingTree) × (slice_get trees k ≡ Some t) × 
 -- None of the first n replicas is that of a root.
 abbrev pub IsNotIn : List WorkingTree → ℕ → Path → Type 0
 IsNotIn trees n r = (k : ℕ) (t : WorkingTree) → k < n → slice_get trees k ≡ Some t → t.root.now ≢ r
+
+-- None of the replicas is that of a root.
+abbrev pub HasNoTree : List WorkingTree → Path → Type 0
+HasNoTree trees r = IsNotIn trees (length trees) r
+
+-- All replicas keep their numbers, and each new one is that of a root.
+abbrev pub KeepNumbers : List WorkingTree → List WorkingTree → Type 0
+KeepNumbers old new =
+    (k : ℕ) (t : WorkingTree) → slice_get old k ≡ Some t → slice_get new k ≡ Some t
+
+abbrev pub NewAreAt : Path → List WorkingTree → List WorkingTree → Type 0
+NewAreAt r old new =
+    (k : ℕ) (t : WorkingTree) → slice_get new k ≡ Some t
+    → (slice_get old k ≡ Some t) ⊎ (t.root.now ≡ r)
 
 -- Each replica is that of its root, and no root is there twice.
 pub record AreTrees (replica : Path → Replica) (trees : List WorkingTree) : Type 0 where
@@ -87,15 +101,30 @@ pub record ShowsWorld (J : Jobs) (w : World) (slots : List Slot) (trees : List W
   pub roots : (k : ℕ) (t : WorkingTree) → slice_get trees k ≡ Some t
       → list_any (λ P. has_root P t.root.now) J.profiles ≡ true
 
+-- These jobs and replicas are those of the opening of a state's world.
+abbrev pub ShowsOpening : State → List Parts → List Slot → List WorkingTree → Type 0
+ShowsOpening S Ps slots trees =
+    ShowsWorld (jobs_of S Ps) (opening (jobs_of S Ps) (replicas_of S)) slots trees
+
 -- The world after a turn of a job, or the same world, where the job is stopped.
 abbrev pub world_then : Jobs → List Slot → ℕ → World → World
 world_then J slots j w = if stopped_at slots j then w else turn J j w
+
+-- These jobs and replicas are what a turn of a job makes of the first ones.
+abbrev pub HasTurned : List Slot → List WorkingTree → ℕ → List Slot → List WorkingTree → Type 0
+HasTurned slots trees j slots_now trees_now =
+    (J : Jobs) (w : World) → ShowsWorld J w slots trees
+    → ShowsWorld J (world_then J slots_now j w) slots_now trees_now
 
 -- The job has the answer of the replica, and the replica is what the operation leaves of it.
 abbrev pub IsAnswered : Slot → WorkingTree → Asked → Slot → WorkingTree → Type 0
 IsAnswered s t a s_now t_now =
     (s_now ≡ with_job s (with_answer s.job a (answer t.tree s.job.profile t.root.now a.op)))
     × (t_now ≡ with_tree_after t (after t.tree a.op))
+
+-- The job has no answer: it was stopped, and the replica is as before.
+abbrev pub IsUnanswered : Slot → WorkingTree → Slot → WorkingTree → Type 0
+IsUnanswered s t s_now t_now = (s_now ≡ with_job s (stopped_job s.job)) × (t_now ≡ t)
 
 -- If the job is stopped and has made a step, it would have asked for another one.
 abbrev pub WouldAsk : JobValue → Type 0
@@ -107,6 +136,10 @@ AllWouldAsk slots = (j : ℕ) (s : Slot) → slice_get slots j ≡ Some s → Wo
 
 abbrev pub StayStopped : (ℕ → Bool) → (ℕ → Bool) → Type 0
 StayStopped before after = (j : ℕ) → before j ≡ true → after j ≡ true
+
+-- At most the job of this number is stopped meanwhile.
+abbrev pub OnlyStops : (ℕ → Bool) → (ℕ → Bool) → ℕ → Type 0
+OnlyStops before after n = (j : ℕ) → after j ≡ true → before j ≡ false → j ≡ n
 
 -- The world v is what turns of a schedule make of w, if each job has so many of its turns: a job
 -- that was stopped before has none, one that isn't stopped afterwards has all, and one that was

@@ -1,6 +1,7 @@
 -- What the jobs of a set leave, whatever the order of their turns. Each clause can be read by
 -- itself.
 use Rattle.std.specs.Prelude.{◌≡◌, ◌≢◌, ℕ, false, List, [], ◌∷◌, ◌++◌, length, replicate, slice_get, Some, IsTrue}
+use Rattle.std.specs.List.{list_any}
 use Rattle.hub_path.specs.Path.{Path}
 use Rattle.hub_profile.specs.Parts.{Parts}
 use Rattle.hub_reach.specs.Reach.{reach, may_at, has_root, PassesThrough}
@@ -13,6 +14,7 @@ use Rattle.hub_job.specs.declared.log.Logged.{Logged}
 use Rattle.hub_job.specs.declared.op.Op.TheVariants.{Set}
 use Rattle.hub_job.specs.World.{Jobs, alone, log_of, opening, run, run_from}
 use Rattle.hub_job.specs.History.{replay}
+use Rattle.hub_schedule.specs.Settled.{AtRootsOfJobs}
 
 -- What a root's history leaves of its replica.
 abbrev pub left_at : (Path → Replica) → (Path → List Entry) → Path → Replica
@@ -82,3 +84,31 @@ ElsewhereStays J replicas js r =
 abbrev pub OwnPathsStay : Jobs → (Path → Replica) → List ℕ → Type 0
 OwnPathsStay J replicas js =
     OwnPathsAreAlone J replicas (run_from J replicas js).replica (log_of (run_from J replicas js))
+
+-- After these turns no job has changed what another one passes through, and no replica of another
+-- root has changed.
+abbrev pub OthersStay : Jobs → (Path → Replica) → List ℕ → Type 0
+OthersStay J replicas js = OthersAreLeftAlone J replicas (run_from J replicas js).history
+
+abbrev pub ForeignStay : Jobs → (Path → Replica) → List ℕ → Type 0
+ForeignStay J replicas js =
+    (r : Path) → list_any (λ P. has_root P r) J.profiles ≡ false
+    → (run_from J replicas js).replica r ≡ replicas r
+
+-- The claim holds of each root of a job.
+abbrev pub AtRoots : List Parts → (Path → Type 0) → Type 0
+AtRoots Ps C =
+    (j : ℕ) (P : Parts) (r : Path) → slice_get Ps j ≡ Some P → IsTrue (has_root P r) → C r
+
+-- What histories leave of each job's own paths is as if the job had been alone.
+abbrev pub OwnPathsAreLeftAlone : Jobs → (Path → Replica) → (Path → List Entry)
+    → (ℕ → List Logged) → Type 0
+OwnPathsAreLeftAlone J replicas histories logs =
+    OwnPathsAreAlone J replicas (left_at replicas histories) logs
+
+-- Where histories and logs fit together, the claim holds of the replica of each job's root before
+-- and after.
+abbrev pub OfRootsLeft : (List Parts → Path → Replica → Replica → Type 0) → Type 0
+OfRootsLeft C =
+    AtRootsOfJobs
+    (λ J replicas histories r. C J.profiles r (replicas r) (left_at replicas histories r))

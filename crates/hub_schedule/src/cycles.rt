@@ -1,10 +1,9 @@
 //! Schedules of cycles.
-ghost use Rattle.std.specs.Prelude.{◌≡◌, ◌≤◌, ◌<◌, ℕ, All, Some, IfSome, length, slice_get, ◌++◌, IfOk, OnOk};
+ghost use Rattle.std.specs.Prelude.{◌≡◌, ◌<◌, All, Some, IfSome, length, ◌++◌, IfOk, OnOk};
 ghost use Rattle.std.specs.List.{range_with_len};
 ghost use Rattle.std.specs.FinMap as fin;
-ghost use Rattle.hub_profile.specs.Parts.{Parts};
 ghost use Rattle.hub_job.specs.Outcome.{replicas_of};
-ghost use Rattle.hub_schedule.specs.Simulated.{AllHaveEnough, turns_enough};
+ghost use Rattle.hub_schedule.specs.Simulated.{AllHaveEnough, AreEnoughForAll, turns_enough};
 
 use hub_path::Root;
 use hub_profile::Profile;
@@ -46,8 +45,7 @@ fn push_cycle(schedule: &mut Vec<usize>, jobs: usize) -> Result<(), AllocError>
 
 /// The most turns that one of the profiles can take, if they can be counted.
 fn most_turns(profiles: &[Profile], state: &State) -> Option<u64>
-    ensures { IfSome result (λ n. (j : ℕ) (P : Parts) → slice_get profiles.now j ≡ Some P
-        → turns_enough state.now P ≤ n) }
+    ensures { IfSome result (λ n. AreEnoughForAll state.now profiles.now n) }
 {
     let mut most = 0;
     for profile in profiles {

@@ -1,14 +1,9 @@
 //! What jobs that have ended leave, however they came by their answers.
-ghost use Rattle.std.specs.Prelude.{◌≡◌, ℕ, List, map, slice_get, Some, IfOk};
-ghost use Rattle.hub_path.specs.Path.{Path};
-ghost use Rattle.hub_profile.specs.Parts.{Parts};
-ghost use Rattle.hub_tree.specs.Tree.{Replica};
-ghost use Rattle.hub_job.specs.Outcome.{IsOutcomeWith};
+ghost use Rattle.std.specs.Prelude.{◌≡◌, ℕ, map, slice_get, Some, IfOk};
 ghost use Rattle.hub_job.specs.JobValue.{JobValue};
-ghost use Rattle.hub_schedule.specs.Ended.{AreEndedWith, AreSlotsOf, HasPlaces, IsSlotOf, ended_value};
-ghost use Rattle.hub_schedule.specs.Promise.{logs_in};
+ghost use Rattle.hub_schedule.specs.Ended.{AreEndedJobs, AreSlotsOf, HasPlaces, IsSlotOf, ended_value};
 ghost use Rattle.hub_schedule.specs.Table.{IsTreeNumber};
-ghost use Rattle.hub_schedule.specs.Safely.{OfEnded};
+ghost use Rattle.hub_schedule.specs.Safely.{IsOutcomeOfJobs};
 
 use crate::schedule::outcome_of;
 use crate::slot::{Slot, WorkingTree};
@@ -26,10 +21,9 @@ pub fn outcome_of_jobs<'a>(
     jobs: Vec<Job<'a>>,
     trees: Vec<WorkingTree<'a>>,
 ) -> Result<Outcome, AllocError>
-    requires { (Ps : List Parts) × (replica : Path → Replica)
-        × AreEndedWith state.now Ps replica jobs.items trees.items }
-    ensures outcome { IfOk result (λ o. OfEnded state.now jobs.entry.items trees.entry.items
-        (λ Ps replica. IsOutcomeWith state.now Ps (logs_in o) replica o)) }
+    requires { AreEndedJobs state.now jobs.items trees.items }
+    ensures outcome { IfOk result
+        (λ o. IsOutcomeOfJobs state.now jobs.entry.items trees.entry.items o) }
     ensures ends { IfOk result (λ o. o.jobs ≡ map ended_value jobs.entry.items) }
 {
     let slots = slots_of(alloc, jobs, trees.as_slice())?;

@@ -1,8 +1,5 @@
 //! How the jobs of a schedule end, and what they leave in the state.
-ghost use Rattle.std.specs.Prelude.{◌≡◌, false, map, fold, IfOk, OnOk, if◌then◌else◌};
-ghost use Rattle.hub_path.specs.Path.{Path};
-ghost use Rattle.hub_reach.specs.Reach.{reach};
-ghost use Rattle.hub_tree.specs.Tree as of_tree;
+ghost use Rattle.std.specs.Prelude.{◌≡◌, Some, map, fold, IfOk, OnOk};
 ghost use Rattle.hub_schedule.specs.forms.Left as spec;
 
 use crate::slot::{Slot, WorkingTree};
@@ -101,10 +98,9 @@ pub(crate) fn put_archives(
 fn put_next(state: &mut State, job: NextArchive<'_>) -> Result<(), AllocError>
     requires { spec.KeepsUnreached job }
     ensures replicas { OnOk result (state.new.replicas ≡ state.old.replicas) }
-    ensures archives { OnOk result (spec.HasArchives
-        (spec.leaves_next_archive job.entry.profile job.entry.next) state.old state.new) }
-    ensures marks { OnOk result (spec.HasMarks
-        (spec.mark_of_next job.entry.profile job.entry.next) state.old state.new) }
+    ensures archives { OnOk result
+        (spec.HasArchives (spec.leaves_next job.entry) state.old state.new) }
+    ensures marks { OnOk result (spec.HasMarks (spec.next_mark job.entry) state.old state.new) }
 {
     let NextArchive {
         profile,
@@ -124,8 +120,7 @@ fn put_marks(
     opening: &Archive,
     next: Archive,
 ) -> Result<(), AllocError>
-    requires { (p : Path) → reach profile.now p ≡ false
-        → of_tree.old_mark_at next p ≡ of_tree.old_mark_at opening.now p }
+    requires { spec.KeptIn profile.now opening.now (Some next) }
     ensures replicas { OnOk result (state.new.replicas ≡ state.old.replicas) }
     ensures archives { OnOk result
         (spec.HasArchives (spec.has_pair profile.now) state.old state.new) }
@@ -146,11 +141,8 @@ fn merge_changes(
     opening: &Archive,
     next: Archive,
 ) -> Result<Archive, AllocError>
-    requires { (p : Path) → reach profile.now p ≡ false
-        → of_tree.old_mark_at next p ≡ of_tree.old_mark_at opening.now p }
-    ensures { IfOk result (λ a. (p : Path) → of_tree.old_mark_at a p
-        ≡ (if reach profile.now p then of_tree.old_mark_at next p
-        else of_tree.old_mark_at current.now p)) }
+    requires { spec.KeptIn profile.now opening.now (Some next) }
+    ensures { IfOk result (λ a. spec.IsMerged profile.now next current.now a) }
 {
     if current.same(opening) {
         return Ok(next);
@@ -161,9 +153,7 @@ fn merge_changes(
 /// Returns an archive with the marks of the next one at the paths that the profile reaches, and the current marks
 /// elsewhere.
 fn merge(profile: &Profile, current: &Archive, next: &Archive) -> Result<Archive, AllocError>
-    ensures { IfOk result (λ a. (p : Path) → of_tree.old_mark_at a p
-        ≡ (if reach profile.now p then of_tree.old_mark_at next.now p
-        else of_tree.old_mark_at current.now p)) }
+    ensures { IfOk result (λ a. spec.IsMerged profile.now next.now current.now a) }
 {
     let mut merged = current.copy()?;
     take_marks(profile, next, current, &mut merged)?;
@@ -178,8 +168,7 @@ fn take_marks(
     paths: &Archive,
     merged: &mut Archive,
 ) -> Result<(), AllocError>
-    ensures { OnOk result ((p : Path) → of_tree.old_mark_at merged.new p
-        ≡ spec.mark_taken profile.now next.now paths.now merged.old p) }
+    ensures { OnOk result (spec.TakesMarks profile.now next.now paths.now merged.old merged.new) }
 {
     for (path, _) in paths.iter() {
         if reaches(profile, path) {

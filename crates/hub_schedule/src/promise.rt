@@ -1,14 +1,12 @@
 //! The promise of a safe set: where the checker accepted the set, the order in which its jobs take turns makes no
 //! difference to any of them. Each law is the contract of a function that does nothing.
-ghost use Rattle.std.specs.Prelude.{ℕ, List};
+ghost use Rattle.std.specs.Prelude.{List};
 ghost use Rattle.hub_profile.specs.Parts.{Parts};
-ghost use Rattle.hub_reach.specs.Safe.{Rule, IsSafe};
 ghost use Rattle.hub_state.specs.State.{State, IsState};
-ghost use Rattle.hub_job.specs.declared.outcome.Outcome.{Outcome};
-ghost use Rattle.hub_job.specs.Outcome.{IsOutcomeOf, world_after};
+ghost use Rattle.hub_job.specs.Outcome.{world_after};
 ghost use Rattle.hub_schedule.specs.Promise.{EnoughTurnsFinish, FinishedAreSynchronized, ForeignAreAsBefore, IsAsIfAlone, IsAsPromised, OldMarksStay, Settles};
-ghost use Rattle.hub_schedule.specs.Safely.{OfKeptTurns, OfSafeSets, OfSafeTurns, OfLostTurns, OfSafeRuns};
-ghost use Rattle.hub_schedule.specs.Settled.{AreProfiles, Histories};
+ghost use Rattle.hub_schedule.specs.Safely.{OfKeptTurns, OfSafeSets, OfSafeTurns, OfLostTurns, OfSafeOutcomes, OfSafeRuns, OfSettledOutcomes, OfTurns};
+ghost use Rattle.hub_schedule.specs.Settled.{AreProfiles};
 ghost use Rattle.hub_schedule.specs.Simulated.{EnoughTurnsEnd, LogsAreOfTurns, StoppedLostTurns, TurnsSuffice, LoneIsSynchronized};
 
 use crate::together::{a_run_settles, each_set_is_allowed, jobs_leave_each_other_alone};
@@ -19,10 +17,8 @@ use hub_job::laws::{a_job_without_turns_reaches_nothing, each_log_is_the_one_alo
 /// replica of no profile is the same as before.
 pub fn finished_jobs_synchronize()
     ensures finished { OfSafeSets (λ S Ps Rs histories o. FinishedAreSynchronized S Ps o) }
-    ensures marks { (S : State) (Ps : List Parts) (histories : Histories) (o : Outcome)
-        → Settles S Ps histories o → OldMarksStay S Ps o }
-    ensures foreign { (S : State) (Ps : List Parts) (histories : Histories) (o : Outcome)
-        → Settles S Ps histories o → ForeignAreAsBefore S Ps o.state }
+    ensures marks { OfSettledOutcomes OldMarksStay }
+    ensures foreign { OfSettledOutcomes (λ S Ps o. ForeignAreAsBefore S Ps o.state) }
 {
     jobs_leave_each_other_alone();
 }
@@ -30,9 +26,7 @@ pub fn finished_jobs_synchronize()
 /// Of an outcome that histories settle: a job of a safe set that wasn't stopped, and that took as many turns as it takes
 /// alone until it is finished, is finished.
 pub fn enough_turns_finish()
-    ensures { (S : State) (Ps : List Parts) (Rs : List Rule) (histories : Histories) (o : Outcome)
-        → IsState S → AreProfiles Ps → IsSafe Ps Rs → Settles S Ps histories o
-        → EnoughTurnsFinish S Ps o }
+    ensures { OfSafeOutcomes EnoughTurnsFinish }
 {
     jobs_leave_each_other_alone();
 }
@@ -49,8 +43,7 @@ pub fn safe_sets_keep_their_promise()
 
 /// An outcome of a schedule is settled by the histories of the world that the schedule leads to.
 pub fn schedules_settle()
-    ensures { (S : State) (Ps : List Parts) (turns : List ℕ) (o : Outcome)
-        → IsOutcomeOf S Ps turns o → Settles S Ps (world_after S Ps turns).history o }
+    ensures { OfTurns (λ S Ps turns o. Settles S Ps (world_after S Ps turns).history o) }
 {
     a_run_settles();
 }

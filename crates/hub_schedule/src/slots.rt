@@ -1,11 +1,9 @@
 //! The jobs of profiles, and the replicas that they change.
-ghost use Rattle.std.specs.Prelude.{◌≡◌, ◌⊎◌, ℕ, false, Some, MatchOption, length, slice_get, IfOk, OnOk};
+ghost use Rattle.std.specs.Prelude.{◌≡◌, ℕ, false, Some, MatchOption, IfOk, OnOk};
 ghost use Rattle.hub_path.specs.declared.side.Side.TheVariants as of_side;
-ghost use Rattle.hub_schedule.specs.declared.slot.WorkingTree.{WorkingTree};
-ghost use Rattle.hub_job.specs.Outcome.{archive_of, jobs_of, replicas_of};
+ghost use Rattle.hub_job.specs.Outcome.{archive_of, replicas_of};
 ghost use Rattle.hub_job.specs.Run.{root_at};
-ghost use Rattle.hub_schedule.specs.Table.{AreTrees, AddsTrees, IsNew, IsNotIn, IsTreeNumber, ShowsWorld, stopped_at};
-ghost use Rattle.hub_job.specs.World.{opening};
+ghost use Rattle.hub_schedule.specs.Table.{AreTrees, AddsTrees, HasNoTree, IsNew, IsTreeNumber, KeepNumbers, NewAreAt, ShowsOpening, stopped_at};
 
 use crate::slot::{Slot, WorkingTree};
 use hub_job::Job;
@@ -22,8 +20,7 @@ pub(crate) fn slots_for<'a>(
     profiles: &'a [Profile],
     state: &'a State,
 ) -> Result<(Vec<Slot<'a>>, Vec<WorkingTree<'a>>), AllocError>
-    ensures table { IfOk result (λ r. ShowsWorld (jobs_of state.now profiles.now)
-        (opening (jobs_of state.now profiles.now) (replicas_of state.now)) r.0.items r.1.items) }
+    ensures table { IfOk result (λ r. ShowsOpening state.now profiles.now r.0.items r.1.items) }
     ensures going { IfOk result (λ r. (j : ℕ) → stopped_at r.0.items j ≡ false) }
 {
     let mut slots = Vec::new(alloc);
@@ -70,10 +67,8 @@ fn place_for<'a>(
     requires { AreTrees (replicas_of state.now) trees.old.items }
     ensures placed { IfOk result (IsTreeNumber trees.new.items root.now) }
     ensures trees { OnOk result (AreTrees (replicas_of state.now) trees.new.items) }
-    ensures more { OnOk result ((k : ℕ) (t : WorkingTree) → slice_get trees.old.items k ≡ Some t
-        → slice_get trees.new.items k ≡ Some t) }
-    ensures rest { OnOk result ((k : ℕ) (t : WorkingTree) → slice_get trees.new.items k ≡ Some t
-        → (slice_get trees.old.items k ≡ Some t) ⊎ (t.root.now ≡ root.now)) }
+    ensures more { OnOk result (KeepNumbers trees.old.items trees.new.items) }
+    ensures rest { OnOk result (NewAreAt root.now trees.old.items trees.new.items) }
 {
     if let Some(place) = find_tree(trees.as_slice(), root) {
         return Ok(place);
@@ -102,8 +97,7 @@ fn copy_of(alloc: Global, state: &State, root: &Root) -> Result<Tree, AllocError
 
 /// Finds the replica of a root.
 pub(crate) fn find_tree(trees: &[WorkingTree<'_>], root: &Root) -> Option<usize>
-    ensures { MatchOption result (IsNotIn trees.now (length trees.now) root.now)
-        (IsTreeNumber trees.now root.now) }
+    ensures { MatchOption result (HasNoTree trees.now root.now) (IsTreeNumber trees.now root.now) }
 {
     for (place, tree) in trees.iter().enumerate() {
         if tree.root == root {

@@ -1,15 +1,9 @@
 //! What holds of the jobs of a set together, whatever the order of their turns: each law is the contract of a function
 //! that does nothing.
-ghost use Rattle.std.specs.Prelude.{◌≡◌, ℕ, List, slice_get, Some, IsTrue, false};
-ghost use Rattle.std.specs.List.{list_any};
-ghost use Rattle.hub_path.specs.Path.{Path};
-ghost use Rattle.hub_profile.specs.Parts.{Parts};
-ghost use Rattle.hub_reach.specs.Reach.{has_root};
 ghost use Rattle.hub_schedule.specs.Owned.{SetsAreTheirOwn, UnwrittenStay};
-ghost use Rattle.hub_job.specs.Same.{NoneClash};
-ghost use Rattle.hub_schedule.specs.Settled.{AreProfiles, IsSettled, IsSettledWorld, AreAsAlone, AtRootsOfJobs, Histories, Logs, OfSettled, Replicas};
-ghost use Rattle.hub_schedule.specs.Together.{left_at, LogsAreAlone, OthersAreLeftAlone, OwnPathsAreAlone, ElsewhereIsAsBefore, SetsAreAllowed, ElsewhereStays, OwnPathsStay};
-ghost use Rattle.hub_job.specs.World.{Jobs, run_from};
+ghost use Rattle.hub_schedule.specs.Settled.{AreProfiles, IsSettledWorld, AreAsAlone, OfApart, OfApartRuns, OfRuns, OfSettled};
+ghost use Rattle.hub_schedule.specs.Together.{AtRoots, ForeignStay, LogsAreAlone, OfRootsLeft, OthersAreLeftAlone, OthersStay, OwnPathsAreLeftAlone, ElsewhereIsAsBefore, SetsAreAllowed, ElsewhereStays, OwnPathsStay};
+ghost use Rattle.hub_job.specs.World.{run_from};
 ghost use Rattle.hub_schedule.specs.Safely.{OfSafeJobs};
 
 use hub_job::laws::{
@@ -20,8 +14,7 @@ use hub_tree::laws::a_set_keeps_trees;
 /// After each schedule of turns the histories of the replicas are legal and agree with the logs of the jobs, each log is
 /// a run of its job, and each replica is what its history leaves of the opening.
 pub fn a_run_settles()
-    ensures { (J : Jobs) (replicas : Replicas) (js : List ℕ)
-        → IsSettledWorld J replicas (run_from J replicas js) }
+    ensures { OfRuns (λ J replicas js. IsSettledWorld J replicas (run_from J replicas js)) }
 {}
 
 /// Where histories are legal, and agree with the logs of jobs that don't clash, each log is the one that its job gets
@@ -37,17 +30,14 @@ pub fn agreeing_histories_are_as_alone()
 /// Where histories are legal, and agree with the logs of jobs that don't clash, each Set in them stands where its job
 /// writes, and at no path that the answers to another job of the root depend on: none that it reaches or passes through.
 pub fn each_set_is_its_own()
-    ensures { (J : Jobs) (replicas : Replicas) (histories : Histories) (logs : Logs)
-        → NoneClash J.profiles → IsSettled J replicas histories logs
-        → SetsAreTheirOwn J.profiles histories }
+    ensures { OfApart (λ J replicas histories. SetsAreTheirOwn J.profiles histories) }
 {
     a_job_asks_only_what_it_may();
 }
 
 /// Where histories are legal and agree with the logs of jobs, a path that no job of the root writes is as at the opening.
 pub fn what_nobody_writes_stays()
-    ensures { AtRootsOfJobs (λ J replicas histories r.
-        UnwrittenStay J.profiles r (replicas r) (left_at replicas histories r)) }
+    ensures { OfRootsLeft UnwrittenStay }
 {
     a_job_asks_only_what_it_may();
     a_set_keeps_trees();
@@ -58,13 +48,9 @@ pub fn what_nobody_writes_stays()
 /// it was.
 pub fn jobs_leave_each_other_alone()
     ensures logs { OfSettled (λ J replicas histories logs. LogsAreAlone J replicas logs) }
-    ensures others { (J : Jobs) (replicas : Replicas) (histories : Histories) (logs : Logs)
-        → NoneClash J.profiles → IsSettled J replicas histories logs
-        → OthersAreLeftAlone J replicas histories }
-    ensures own { OfSettled (λ J replicas histories logs.
-        OwnPathsAreAlone J replicas (left_at replicas histories) logs) }
-    ensures elsewhere { AtRootsOfJobs (λ J replicas histories r.
-        ElsewhereIsAsBefore J.profiles r (replicas r) (left_at replicas histories r)) }
+    ensures others { OfApart OthersAreLeftAlone }
+    ensures own { OfSettled OwnPathsAreLeftAlone }
+    ensures elsewhere { OfRootsLeft ElsewhereIsAsBefore }
 {
     a_job_asks_only_what_it_may();
     others_change_no_answer();
@@ -74,16 +60,12 @@ pub fn jobs_leave_each_other_alone()
 
 /// The same of the world after a schedule of turns. A replica of no profile is never changed.
 pub fn a_run_leaves_others_alone()
-    ensures others { (J : Jobs) (replicas : Replicas) (js : List ℕ) → NoneClash J.profiles
-        → OthersAreLeftAlone J replicas (run_from J replicas js).history }
-    ensures own { (J : Jobs) (replicas : Replicas) (js : List ℕ) → NoneClash J.profiles
-        → AreProfiles J.profiles → OwnPathsStay J replicas js }
-    ensures elsewhere { (J : Jobs) (replicas : Replicas) (js : List ℕ) (j : ℕ) (P : Parts)
-        (r : Path) → slice_get J.profiles j ≡ Some P → IsTrue (has_root P r)
-        → ElsewhereStays J replicas js r }
-    ensures foreign { (J : Jobs) (replicas : Replicas) (js : List ℕ) (r : Path)
-        → list_any (λ P. has_root P r) J.profiles ≡ false
-        → (run_from J replicas js).replica r ≡ replicas r }
+    ensures others { OfApartRuns OthersStay }
+    ensures own { OfApartRuns
+        (λ J replicas js. AreProfiles J.profiles → OwnPathsStay J replicas js) }
+    ensures elsewhere { OfRuns
+        (λ J replicas js. AtRoots J.profiles (ElsewhereStays J replicas js)) }
+    ensures foreign { OfRuns ForeignStay }
 {
     a_run_settles();
     jobs_leave_each_other_alone();

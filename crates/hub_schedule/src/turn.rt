@@ -1,8 +1,7 @@
 //! Turns of jobs on shared replicas.
-ghost use Rattle.std.specs.Prelude.{◌≡◌, ◌<◌, ℕ, true, false, length, Some, All};
-ghost use Rattle.hub_job.specs.JobValue as value;
-ghost use Rattle.hub_schedule.specs.Table.{AllWouldAsk, AreTreeNumbers, HaveTurned, ShowsWorld, StayStopped, stopped_at, with_job, IsAnswered, world_then};
-ghost use Rattle.hub_job.specs.World.{Jobs, World, turn};
+ghost use Rattle.std.specs.Prelude.{◌≡◌, ◌<◌, true, false, length, Some, All};
+ghost use Rattle.hub_schedule.specs.Table.{AllWouldAsk, AreTreeNumbers, HasTurned, HaveTurned, OnlyStops, StayStopped, stopped_at, IsAnswered, IsUnanswered};
+ghost use Rattle.hub_job.specs.World.{turn};
 
 use crate::slot::{Slot, WorkingTree};
 use hub_job::{Next, Op, perform};
@@ -37,11 +36,10 @@ fn take_turn(
 )
     requires placed { AreTreeNumbers slots.old.items trees.old.items }
     requires number { number < length slots.old.items }
-    ensures turn { (J : Jobs) (w : World) → ShowsWorld J w slots.old.items trees.old.items
-        → ShowsWorld J (world_then J slots.new.items number w) slots.new.items trees.new.items }
+    ensures turn { HasTurned slots.old.items trees.old.items number
+        slots.new.items trees.new.items }
     ensures stays { StayStopped (stopped_at slots.old.items) (stopped_at slots.new.items) }
-    ensures others { (j : ℕ) → stopped_at slots.new.items j ≡ true
-        → stopped_at slots.old.items j ≡ false → j ≡ number }
+    ensures others { OnlyStops (stopped_at slots.old.items) (stopped_at slots.new.items) number }
     ensures placed { AreTreeNumbers slots.new.items trees.new.items }
     ensures count { length slots.new.items ≡ length slots.old.items }
     ensures more { AllWouldAsk slots.old.items → AllWouldAsk slots.new.items }
@@ -58,8 +56,7 @@ fn answer(alloc: Global, slot: &mut Slot<'_>, replica: &mut WorkingTree<'_>, sid
     requires going { slot.old.job.stopped ≡ false }
     requires asks { slot.old.job.asked ≡ Some (record { side = side; op = op.now }) }
     ensures lost { slot.new.job.stopped ≡ true
-        → (slot.new ≡ with_job slot.old (value.stopped_job slot.old.job))
-        × (replica.new ≡ replica.old) }
+        → IsUnanswered slot.old replica.old slot.new replica.new }
     ensures made { slot.new.job.stopped ≡ false
         → IsAnswered slot.old replica.old (record { side = side; op = op.now })
         slot.new replica.new }

@@ -179,8 +179,17 @@ pub record AddsRound (Rs : List Rule) (Ps : List Parts) (n : ℕ) (old new : Rou
   pub came : ComesOf (round_set Rs Ps) old.state n attempt
   pub added : IsAdded attempt old new
 
--- It holds of what was run by rounds, where this came of it.
+-- The claim holds of what was run by rounds, where this came of it.
 abbrev pub OfRoundsRun : Result RoundsRun CheckFault → (Members → ℕ → State → Type 0) → Type 0
 OfRoundsRun run C =
     (M : Members) (n : ℕ) (S : State) → IfOk run (HasRunByRounds M n S)
     → IfErr run (λ e. is_memory e ≡ false → HasUnverifiedRound M) → C M n S
+
+-- The claim holds of what was to be run by rounds, where a round is refused with this fault.
+abbrev pub OfUnverified : CheckFault → (Members → ℕ → State → Type 0) → Type 0
+OfUnverified e C =
+    (M : Members) (n : ℕ) (S : State) → (is_memory e ≡ false → HasUnverifiedRound M) → C M n S
+
+-- The claim holds if these are all faults of a set, and none says that a profile is in no round.
+abbrev pub IfNoneIsLeftOut : Members → List CheckFault → Type 0 → Type 0
+IfNoneIsLeftOut M es C = AreFaults M es → find leaves_out es ≡ None → C

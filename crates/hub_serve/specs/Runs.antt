@@ -11,7 +11,7 @@ use Rattle.hub_job.specs.declared.run_fault.RunFault.{RunFault}
 use Rattle.hub_job.specs.declared.run_fault.RunFault.TheVariants as unrun
 use Rattle.hub_schedule.specs.Refusals.{first_missing}
 use Rattle.hub_schedule.specs.Simulated.{AreFinished, HaveEnded, IsPromised}
-use Rattle.hub_runner.specs.Working.{AreWorkers, MayRun}
+use Rattle.hub_runner.specs.Working.{AreWorkers, IsNotRun, MayRun}
 use Rattle.hub_runner.specs.declared.runs.TheConstants.{WORKERS}
 use Rattle.hub_report.specs.declared.run.Run.{Run}
 use Rattle.hub_report.specs.declared.run.RunError.{RunError}
@@ -25,9 +25,13 @@ use Rattle.hub_serve.specs.declared.run.Attempt.TheVariants.{Ran, NotRun}
 use Rattle.hub_serve.specs.declared.task.Task.{Task}
 use Rattle.hub_serve.specs.declared.task.Task.TheVariants as task
 
+-- The outcome of the jobs of a set on a state is as promised.
+abbrev pub IsPromisedOf : Members → State → Outcome → Type 0
+IsPromisedOf M S o = IsPromised S M.profiles (map forbidden_by M.rules) o
+
 -- The jobs of a set were run on a state, this is the outcome, and each of them has ended.
 pub record IsRunOn (M : Members) (S : State) (o : Outcome) : Type 0 where
-  pub promised : IsPromised S M.profiles (map forbidden_by M.rules) o
+  pub promised : IsPromisedOf M S o
   pub ended : HaveEnded o.jobs
 
 -- They were run on this state: that is what is said of them, and the state that they left.
@@ -48,6 +52,10 @@ PreventsRun S Ps n (fault.MissingReplica root) = AreWorkers n × (first_missing 
 PreventsRun S Ps n fault.ThreadRefused = MayRun S Ps n
 PreventsRun S Ps n fault.Stranger = MayRun S Ps n
 PreventsRun S Ps n fault.Mismatch = MayRun S Ps n
+
+-- The claim holds of what was to be run, where this is why it wasn't.
+abbrev pub OfUnrun : RunFault → (State → List Parts → ℕ → Type 0) → Type 0
+OfUnrun fault C = (S : State) (Ps : List Parts) (n : ℕ) → IsNotRun S Ps n fault → C S Ps n
 
 -- What is told of jobs that weren't run. A bad turn is of schedules alone, and with no memory
 -- nothing is told.
@@ -70,6 +78,11 @@ attempt_of (Some e) = Ok (NotRun e)
 abbrev pub ComesOf : Members → State → ℕ → Attempt → Type 0
 ComesOf M S n (Ran r) = MayRun S M.profiles n × HasRun M S r
 ComesOf M S n (NotRun e) = PreventsRun S M.profiles n e
+
+-- The claim holds of what was to be run of a safe set, where this came of it.
+abbrev pub OfAttempt : Attempt → (Members → State → ℕ → Type 0) → Type 0
+OfAttempt attempt C =
+    (M : Members) (S : State) (n : ℕ) → IsSafeSet M → ComesOf M S n attempt → C M S n
 
 -- What is answered to an attempt.
 abbrev pub answer_of : Attempt → RunAnswer

@@ -3,9 +3,11 @@ use Rattle.std.specs.Prelude.{◌≡◌, ◌⊎◌, ◌≤◌, ◌++◌, ℕ, Bo
 use Rattle.std.specs.Io.KnownBytes.{Appends, Keeps}
 use Rattle.hub_bundle.specs.declared.input.InputFault.TheVariants as input
 use Rattle.hub_cli.specs.declared.words.Question.TheVariants as ask
+use Rattle.hub_cli.specs.declared.words.Query.{Query}
 use Rattle.hub_cli.specs.declared.words.Reading.{Reading}
-use Rattle.hub_cli.specs.Words.{Request}
+use Rattle.hub_cli.specs.Words.{Request, request_of}
 use Rattle.hub_cli.specs.Words as question
+use Rattle.hub_report.specs.declared.report.TheConstants.{OUT_OF_MEMORY}
 use Rattle.hub_report.specs.declared.report.Report.{Report}
 use Rattle.hub_report.specs.declared.report.Report.TheVariants as answer
 use Rattle.hub_serve.specs.Mended.{asks_mend}
@@ -162,3 +164,32 @@ abbrev pub ServesOver : {D E : Type 0} → Watched D → Watched D → Watched E
 ServesOver input input_after output output_after remaining contents asked status =
     ServesInFull asked (remaining input.device) (contents output.device)
     (contents output_after.device) (reads_between input input_after) output_after.failed status
+
+-- The same of the answer to a query.
+abbrev pub AnswersQuery : {D E : Type 0} → Watched D → Watched D → Watched E → Watched E
+    → (D → Option (List ℕ)) → (E → Option (List ℕ)) → Query → ℕ → Type 0
+AnswersQuery input input_after output output_after remaining contents query status =
+    Answers (request_of query) (remaining input.device) (contents output.device)
+    (contents output_after.device) (reads_between input input_after) output_after.failed status
+
+-- The same where nothing is answered, where a text is written, where that says that memory is out,
+-- and of bytes alone.
+abbrev pub AnswersNothingTo : {E : Type 0} → Watched E → Watched E → (E → Option (List ℕ)) → ℕ
+    → Type 0
+AnswersNothingTo output output_after contents status =
+    AnswersNothing (contents output.device) (contents output_after.device) status
+
+abbrev pub WritesTextTo : {E : Type 0} → Watched E → Watched E → (E → Option (List ℕ)) → List ℕ
+    → ℕ → ℕ → Type 0
+WritesTextTo output output_after contents text status result =
+    WritesText (contents output.device) (contents output_after.device) text status
+    output_after.failed result
+
+abbrev pub WritesMemory : {E : Type 0} → Watched E → Watched E → (E → Option (List ℕ)) → ℕ → Type 0
+WritesMemory output output_after contents result =
+    WritesTextTo output output_after contents OUT_OF_MEMORY.now 2 result
+
+abbrev pub AppendsTo : {E : Type 0} → Watched E → Watched E → (E → Option (List ℕ)) → List ℕ
+    → Type 0
+AppendsTo output output_after contents bytes =
+    Appends (contents output.device) (contents output_after.device) bytes

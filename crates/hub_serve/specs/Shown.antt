@@ -13,7 +13,7 @@ use Rattle.hub_cli.specs.Words.{Request, reading_for, reading_of}
 use Rattle.hub_cli.specs.Words as question
 use Rattle.hub_serve.specs.declared.task.Task.{Task}
 use Rattle.hub_serve.specs.Mended.{Mends, mend_text}
-use Rattle.hub_mend.specs.Additions.{line_count, mended_text}
+use Rattle.hub_mend.specs.Additions.{mended_text}
 use Rattle.hub_mend.specs.declared.piece.Piece.{Piece}
 use Rattle.hub_import.specs.Imported.{contents_of}
 use Rattle.hub_report.specs.RoundsRun.{rounds_run_text}
@@ -24,7 +24,7 @@ use Rattle.hub_serve.specs.Rounds.{DrawsClashes, ListsClashes, WritesRounds}
 use Rattle.hub_serve.specs.Runs.{IsBelow}
 use Rattle.hub_serve.specs.Unison.{SpellsAs, SpellsRoundInUnison, SpellsSafeInUnison, SpellsUnreachedInUnison}
 use Rattle.hub_serve.specs.Task.{task_of}
-use Rattle.hub_serve.specs.Told.{ReachIs, SaysOf}
+use Rattle.hub_serve.specs.Told.{ReachIs, SaysOfMended}
 
 -- A text is the whole of what is to be told, with the status of that, unless a call of the output
 -- failed: then it is a prefix, and the status is 2.
@@ -187,7 +187,7 @@ pub record ShowsMend (reading : Reading) (as_bundle : Bool) (bytes text : List �
   pub mends : Mends reading bytes pieces new
   pub safe : Bool
   pub line : List ℕ
-  pub said : SaysOf safe new (line_count pieces) line
+  pub said : SaysOfMended safe new pieces line
   pub text_is : text ≡ mend_text as_bundle pieces line
   pub status_is : status ≡ (if safe then 0 else 1)
   pub in_unison : reading ≡ read.Unison → safe ≡ true → SpellsSafeInUnison (mended_text pieces)

@@ -1,5 +1,5 @@
 -- What an answer says of a question and of an input.
-use Rattle.std.specs.Prelude.{◌≡◌, ◌⊎◌, ◌≤◌, ⊤, ℕ, Bool, true, false, List, length, Some, None, Ok, Err, chars, string_bytes}
+use Rattle.std.specs.Prelude.{◌≡◌, ◌⊎◌, ◌≤◌, ⊤, ℕ, Bool, true, false, List, length, Some, None, Result, Ok, Err, IfErr, IfOk, chars, string_bytes}
 use Rattle.hub_path.specs.Path.{Path}
 use Rattle.hub_path.specs.Reading.{path_reading}
 use Rattle.hub_path.specs.declared.fault.PathFault.{PathFault}
@@ -50,7 +50,7 @@ use Rattle.hub_report.specs.declared.mended.Mended.{Mended}
 use Rattle.hub_import.specs.Imported.{contents_of}
 use Rattle.hub_report.specs.Report.{TellsRefusal}
 use Rattle.hub_serve.specs.ByRounds.{HasRunByRoundsAs, IsFirstAlone, RunsByRounds}
-use Rattle.hub_serve.specs.Rounds.{DrawsClashes, HasUnverifiedRound, ListsClashes, WritesRounds}
+use Rattle.hub_serve.specs.Rounds.{DrawsClashes, HasUnverifiedRound, IsCut, ListsClashes}
 use Rattle.hub_serve.specs.Runs.{HasRunAs, IsPrevented}
 use Rattle.hub_serve.specs.Unison.{SpellsAs, counted_as}
 use Rattle.hub_serve.specs.Task.{AsksTask, LacksState}
@@ -123,7 +123,7 @@ IsVerdictOn t S cs (Certified text) = (t ≡ task.Certify) × WritesCertificates
 abbrev pub AreClashesOf : Task → Members → ClashesAnswer → Type 0
 AreClashesOf t S (Lines text) = (t ≡ task.Clashes) × ListsClashes S (string_bytes text)
 AreClashesOf t S (Graph g) = (t ≡ task.Graph) × DrawsClashes S (string_bytes g.text) g.safe
-AreClashesOf t S (Cut c) = (t ≡ task.Rounds) × WritesRounds S (string_bytes c.text) c.decided
+AreClashesOf t S (Cut c) = (t ≡ task.Rounds) × IsCut S c
 
 -- with what came of a run,
 abbrev pub CameOfRun : Task → Members → RunAnswer → Type 0
@@ -141,6 +141,22 @@ IsToldOfSet t S cs (answer.Refused text) =
 IsToldOfSet t S cs answer.NotVerified = ((t ≡ task.Rounds) ⊎ RunsByRounds t) × HasUnverifiedRound S
 IsToldOfSet t S cs answer.OutOfMemory = ⊤
 IsToldOfSet t S cs _ = ⊥
+
+-- That is the answer about a set, whatever the bundle's certificates are.
+abbrev pub IsToldAnyway : Task → Members → Report → Type 0
+IsToldAnyway t S r = (cs : List Certificate) → IsToldOfSet t S cs r
+
+-- The claim holds of what was to be done about a set with these certificates, where this is the
+-- answer, or the fault by which the set is refused.
+abbrev pub OfAnswer : Result Report CheckFault → Members
+    → (Task → List Certificate → Type 0) → Type 0
+OfAnswer answer S C =
+    (t : Task) (cs : List Certificate) → IfOk answer (IsToldOfSet t S cs)
+    → IfErr answer (FaultOf t S cs) → C t cs
+
+-- A set that may be refused first for this fault isn't safe.
+abbrev pub IsUnsafeIfFirst : Members → CheckFault → Type 0
+IsUnsafeIfFirst S e = IsFirstFault S e → IsSafeSet S → ⊥
 
 -- The profiles and rules are no set and aren't put apart, or the set is refused.
 abbrev pub IsRefusedFor : Task → BundleContents → CheckFault → Type 0
@@ -202,6 +218,10 @@ SaysOf true c n line = IsSafeSet (members c) × (line ≡ safe_line n)
 SaysOf false c n line =
     (e : CheckFault) × IsRefusedFor task.Check c e × (line ≡ refusal_line (members c) e)
 
+-- The same of a bundle with these lines.
+abbrev pub SaysOfMended : Bool → BundleContents → List Piece → List ℕ → Type 0
+SaysOfMended safe c pieces line = SaysOf safe c (line_count pieces) line
+
 -- It was asked for lines that make the bundle's set safe, and these are written, or the bundle with
 -- them.
 pub record IsMended (request : Request) (bytes : List ℕ) (m : Mended) : Type 0 where
@@ -212,7 +232,7 @@ pub record IsMended (request : Request) (bytes : List ℕ) (m : Mended) : Type 0
   pub new : BundleContents
   pub mends : Mends reading bytes pieces new
   pub line : List ℕ
-  pub said : SaysOf m.safe new (line_count pieces) line
+  pub said : SaysOfMended m.safe new pieces line
   pub text_is : m.text.items ≡ mend_text as_bundle pieces line
 
 -- What holds of an input that isn't read. That a read failed is no fact about its bytes:

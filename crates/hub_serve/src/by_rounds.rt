@@ -1,19 +1,14 @@
 //! Runs of the rounds of a set, one after another and in one state.
-ghost use Rattle.std.specs.Prelude.{◌≡◌, ℕ, false, List, length, option_map, None, IfErr, IfOk, IfSome, OnOk};
+ghost use Rattle.std.specs.Prelude.{◌≡◌, false, length, option_map, None, IfErr, IfOk, IfSome, OnOk};
 ghost use Rattle.std.specs.List.{find};
-ghost use Rattle.hub_cert.specs.Set.{Members};
-ghost use Rattle.hub_cert.specs.declared.certificate.Certificate.{Certificate};
-ghost use Rattle.hub_search.specs.Faults.{AreFaults};
-ghost use Rattle.hub_state.specs.State.{State as StateValue};
 ghost use Rattle.hub_rounds.specs.Unverified as unverified;
 ghost use Rattle.hub_rounds.specs.Unverified.{RefusesRound};
 ghost use Rattle.hub_runner.specs.Working.{AreWorkers};
 ghost use Rattle.hub_report.specs.Report.{unread_by};
 ghost use Rattle.hub_serve.specs.ByRounds as spec;
-ghost use Rattle.hub_serve.specs.ByRounds.{HaveRun, IsAdded, IsBegun, AddsRound, OfRoundsRun};
+ghost use Rattle.hub_serve.specs.ByRounds.{HaveRun, IsAdded, IsBegun, AddsRound, OfRoundsRun, OfUnverified, IfNoneIsLeftOut};
 ghost use Rattle.hub_serve.specs.ByRounds.{RefusesOneOf, RefusesWorkers};
-ghost use Rattle.hub_serve.specs.Told.{IsToldOfSet};
-ghost use Rattle.hub_serve.specs.Rounds.{HasUnverifiedRound};
+ghost use Rattle.hub_serve.specs.Told.{IsToldAnyway};
 ghost use Rattle.hub_serve.specs.declared.task.Task.TheVariants as task;
 
 use crate::progress::{Goals, Progress};
@@ -41,8 +36,7 @@ pub fn report_on_run_by_rounds<'a, T: Threads + Wait + Sync, P: Progress + Sync>
     workers: u8,
     progress: &P,
 ) -> Report<'a>
-    ensures told { (cs : List Certificate) → IsToldOfSet (task.RunByRounds workers state) set cs
-        result }
+    ensures told { IsToldAnyway (task.RunByRounds workers state) set result }
     ensures read { unread_by result ≡ None }
 {
     let Ok(clashes) = clashes_of(alloc, &set) else {
@@ -78,8 +72,8 @@ fn report_on_all<'a, T: Threads + Wait + Sync, P: Progress + Sync>(
     workers: u8,
     progress: &P,
 ) -> Report<'a>
-    ensures told { AreFaults set clashes.now → find spec.leaves_out clashes.now ≡ None
-        → (cs : List Certificate) → IsToldOfSet (task.RunByRounds workers state) set cs result }
+    ensures told { IfNoneIsLeftOut set clashes.now
+        (IsToldAnyway (task.RunByRounds workers state) set result) }
     ensures read { unread_by result ≡ None }
 {
     match rounds_of(alloc, set, clashes) {
@@ -91,8 +85,7 @@ fn report_on_all<'a, T: Threads + Wait + Sync, P: Progress + Sync>(
 
 /// The answer with a run by rounds, or that a round wasn't verified. Tests show no such round.
 fn report_on_run<'a>(run: Result<RoundsRun, CheckFault>) -> Report<'a>
-    ensures told { OfRoundsRun run
-        (λ M n S. (cs : List Certificate) → IsToldOfSet (task.RunByRounds n S) M cs result) }
+    ensures told { OfRoundsRun run (λ M n S. IsToldAnyway (task.RunByRounds n S) M result) }
     ensures read { unread_by result ≡ None }
 {
     match run {
@@ -103,9 +96,8 @@ fn report_on_run<'a>(run: Result<RoundsRun, CheckFault>) -> Report<'a>
 
 /// The answer that a round wasn't verified, unless memory is out.
 fn report_on_unverified<'a>(fault: &CheckFault) -> Report<'a>
-    ensures told { (M : Members) (n : ℕ) (S : StateValue)
-        → (unverified.is_memory fault.now ≡ false → HasUnverifiedRound M)
-        → (cs : List Certificate) → IsToldOfSet (task.RunByRounds n S) M cs result }
+    ensures told { OfUnverified fault.now
+        (λ M n S. IsToldAnyway (task.RunByRounds n S) M result) }
     ensures read { unread_by result ≡ None }
 {
     if is_memory(fault) {

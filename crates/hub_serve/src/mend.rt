@@ -1,15 +1,14 @@
 //! Lines that make the set of a bundle's profiles and rules safe.
 ghost use Rattle.std.specs.Prelude.{◌≡◌, ◌⊎◌, true, IfErr, IfOk, None};
-ghost use Rattle.hub_cli.specs.Words.{about, mended, reading_for, request_of};
-ghost use Rattle.hub_cli.specs.declared.words.Question.TheVariants as ask;
+ghost use Rattle.hub_cli.specs.Words.{mended, reading_for, request_of};
 ghost use Rattle.hub_bundle.specs.Sections.{members};
 ghost use Rattle.hub_cert.specs.Set.{IsSafeSet};
-ghost use Rattle.hub_mend.specs.Additions as lines;
 ghost use Rattle.hub_mend.specs.TakesAway.{AllTakeAway};
 ghost use Rattle.hub_report.specs.Report.{unread_by};
 ghost use Rattle.hub_serve.specs.Mended as spec;
-ghost use Rattle.hub_serve.specs.forms.Mending.{HoldsIf, MendsTextOf};
+ghost use Rattle.hub_serve.specs.forms.Mending.{CheckTells, HoldsIf, MendsTextOf};
 ghost use Rattle.hub_serve.specs.Told as told;
+ghost use Rattle.hub_serve.specs.Told.{SaysOfMended};
 
 use crate::answer::contents_in;
 use crate::progress::Progress;
@@ -110,8 +109,7 @@ fn report_on_said<'a>(
     pieces: &[Piece],
     said: Report<'a>,
 ) -> Report<'a>
-    ensures told { HoldsIf pieces.now as_bundle
-        (λ reading new. told.IsTold (about (ask.Check reading)) new said.entry) result }
+    ensures told { HoldsIf pieces.now as_bundle (CheckTells said.entry) result }
     ensures read { unread_by result ≡ None }
 {
     match said {
@@ -129,9 +127,7 @@ fn report_on_verdict<'a>(
     pieces: &[Piece],
     verdict: Verdict,
 ) -> Report<'a>
-    ensures told { HoldsIf pieces.now as_bundle
-        (λ reading new. told.IsTold (about (ask.Check reading)) new (Report.Verdict verdict))
-        result }
+    ensures told { HoldsIf pieces.now as_bundle (CheckTells (Report.Verdict verdict)) result }
     ensures read { unread_by result ≡ None }
 {
     match verdict {
@@ -163,7 +159,7 @@ fn report_with<'a>(
     safe: bool,
 ) -> Report<'a>
     ensures told { HoldsIf pieces.now as_bundle
-        (λ _ new. told.SaysOf safe new (lines.line_count pieces.now) line.now) result }
+        (λ _ new. SaysOfMended safe new pieces.now line.now) result }
     ensures read { unread_by result ≡ None }
 {
     match text_with(alloc, as_bundle, pieces, line) {

@@ -1,13 +1,12 @@
 //! What the program does, over any reader and writer.
 ghost use Rattle.std.specs.Prelude.{◌≡◌, ℕ, false, is_err, map, string_bytes, take, IfErr, IfOk, OnOk};
-ghost use Rattle.std.specs.Io.KnownBytes.{Appends};
 ghost use Rattle.std.specs.IoError.{error_kind};
 ghost use Rattle.std.specs.declared.io.ErrorKind.TheVariants as io_kind;
 ghost use Rattle.hub_report.specs.Blocks.{bytes_in};
 ghost use Rattle.hub_cli.specs.ClapWords.{kind_of};
-ghost use Rattle.hub_cli.specs.Words.{asked_of, request_of};
-ghost use Rattle.hub_serve.specs.Reads.{reads_between};
-ghost use Rattle.hub_serve.specs.Serves.{Answers, AnswersNothing, Serves, WritesText, ServesOver};
+ghost use Rattle.hub_cli.specs.Words.{asked_of};
+ghost use Rattle.hub_serve.specs.Serves.{Serves, ServesOver};
+ghost use Rattle.hub_serve.specs.Serves.{AnswersNothingTo, AnswersQuery, AppendsTo, WritesMemory, WritesTextTo};
 
 use crate::answer::report_on;
 use crate::laws::what_is_shown_is_not_safe;
@@ -45,8 +44,7 @@ pub fn serve_process<
         output.new.failed result) }
     ensures read { IfOk words (λ v. ServesOver input.old input.new output.old output.new
         R.remaining W.contents (asked_of (map string_bytes v.items)) result) }
-    ensures unread { IfErr words (λ _. AnswersNothing
-        (W.contents output.old.device) (W.contents output.new.device) result) }
+    ensures unread { IfErr words (λ _. AnswersNothingTo output.old output.new W.contents result) }
 {
     match words {
         Ok(words) => serve(rt, words.as_slice(), input, output, progress),
@@ -98,11 +96,9 @@ pub fn serve<
 /// Tells the user why the words ask for nothing, or that memory is out.
 fn refuse<T: Eprint, W: Write>(rt: &T, error: &Error, output: &mut Watched<W>) -> u8
     requires { output.old.failed ≡ false }
-    ensures nothing { AnswersNothing
-        (W.contents output.old.device) (W.contents output.new.device) result }
-    ensures memory { kind_of error.now ≡ ErrorKind.OutOfMemory → WritesText
-        (W.contents output.old.device) (W.contents output.new.device)
-        OUT_OF_MEMORY.now 2 output.new.failed result }
+    ensures nothing { AnswersNothingTo output.old output.new W.contents result }
+    ensures memory { kind_of error.now ≡ ErrorKind.OutOfMemory
+        → WritesMemory output.old output.new W.contents result }
 {
     if error.kind() == ErrorKind::OutOfMemory {
         return write_out_of_memory(output);
@@ -115,11 +111,9 @@ fn refuse<T: Eprint, W: Write>(rt: &T, error: &Error, output: &mut Watched<W>) -
 /// Tells the user why the words on the command line can't be read, or that memory is out.
 pub fn refuse_unread<T: Eprint, W: Write>(rt: &T, error: &io::Error, output: &mut Watched<W>) -> u8
     requires { output.old.failed ≡ false }
-    ensures nothing { AnswersNothing
-        (W.contents output.old.device) (W.contents output.new.device) result }
-    ensures memory { error_kind error.now ≡ io_kind.OutOfMemory → WritesText
-        (W.contents output.old.device) (W.contents output.new.device)
-        OUT_OF_MEMORY.now 2 output.new.failed result }
+    ensures nothing { AnswersNothingTo output.old output.new W.contents result }
+    ensures memory { error_kind error.now ≡ io_kind.OutOfMemory
+        → WritesMemory output.old output.new W.contents result }
 {
     if error.kind() == io::ErrorKind::OutOfMemory {
         return write_out_of_memory(output);
@@ -140,9 +134,8 @@ fn answer<T: Eprint + Threads + Wait + Sync, R: Read, W: Write, P: Progress + Sy
 ) -> u8
     requires input { input.old.failed ≡ false }
     requires output { output.old.failed ≡ false }
-    ensures { Answers (request_of asked.entry) (R.remaining input.old.device)
-        (W.contents output.old.device) (W.contents output.new.device)
-        (reads_between input.old input.new) output.new.failed result }
+    ensures { AnswersQuery input.old input.new output.old output.new R.remaining W.contents
+        asked.entry result }
 {
     let report = report_on(rt, alloc, asked, input, progress);
     progress.over();
@@ -165,8 +158,7 @@ fn name_undecided<T: Eprint>(rt: &T, pairs: &str) {
 /// Writes that memory is out, and returns the status of a fault.
 fn write_out_of_memory<W: Write>(output: &mut Watched<W>) -> u8
     requires { output.old.failed ≡ false }
-    ensures { WritesText (W.contents output.old.device) (W.contents output.new.device)
-        OUT_OF_MEMORY.now 2 output.new.failed result }
+    ensures { WritesMemory output.old output.new W.contents result }
 {
     write_line(OUT_OF_MEMORY.as_bytes(), 2, output)
 }
@@ -174,8 +166,7 @@ fn write_out_of_memory<W: Write>(output: &mut Watched<W>) -> u8
 /// Writes a line and returns its status, or 2 if a write or the flush failed.
 fn write_line<W: Write>(line: &[u8], status: u8, output: &mut Watched<W>) -> u8
     requires { output.old.failed ≡ false }
-    ensures { WritesText (W.contents output.old.device) (W.contents output.new.device)
-        line.now status output.new.failed result }
+    ensures { WritesTextTo output.old output.new W.contents line.now status result }
 {
     if output.write_all(line).is_err() || output.flush().is_err() {
         return 2;
@@ -186,8 +177,7 @@ fn write_line<W: Write>(line: &[u8], status: u8, output: &mut Watched<W>) -> u8
 /// Writes a text and returns its status, or 2 if a write or the flush failed.
 fn write_text<W: Write>(text: &Blocks, status: u8, output: &mut Watched<W>) -> u8
     requires { output.old.failed ≡ false }
-    ensures { WritesText (W.contents output.old.device) (W.contents output.new.device)
-        (bytes_in text.now) status output.new.failed result }
+    ensures { WritesTextTo output.old output.new W.contents (bytes_in text.now) status result }
 {
     if write_blocks(text, output).is_err() || output.flush().is_err() {
         return 2;
@@ -198,10 +188,9 @@ fn write_text<W: Write>(text: &Blocks, status: u8, output: &mut Watched<W>) -> u
 /// Writes all blocks of a text, or a prefix of it up to the first call that fails.
 fn write_blocks<W: Write>(text: &Blocks, output: &mut Watched<W>) -> io::Result<()>
     requires { output.old.failed ≡ false }
-    ensures bytes { OnOk result (Appends (W.contents output.old.device)
-        (W.contents output.new.device) (bytes_in text.now)) }
-    ensures prefix { (n : ℕ) × Appends (W.contents output.old.device)
-        (W.contents output.new.device) (take n (bytes_in text.now)) }
+    ensures bytes { OnOk result (AppendsTo output.old output.new W.contents (bytes_in text.now)) }
+    ensures prefix { (n : ℕ) × AppendsTo output.old output.new W.contents
+        (take n (bytes_in text.now)) }
     ensures failed { output.new.failed ≡ is_err result }
 {
     let blocks = text.as_slice();

@@ -1,15 +1,14 @@
 //! What clashes in a set, and its rounds.
-ghost use Rattle.std.specs.Prelude.{◌≡◌, List, None, IfErr, IfOk, string_bytes, true};
+ghost use Rattle.std.specs.Prelude.{◌≡◌, None, IfErr, IfOk, string_bytes, true};
 ghost use Rattle.std.specs.List.{list_any};
-ghost use Rattle.hub_cert.specs.declared.certificate.Certificate.{Certificate};
-ghost use Rattle.hub_cert.specs.Set.{Members};
-ghost use Rattle.hub_apart.specs.Apart as apart;
+ghost use Rattle.hub_cert.specs.Set.{Members, OfMembers};
+ghost use Rattle.hub_apart.specs.Apart.{are_put_apart};
 ghost use Rattle.hub_apart.specs.ApartLines.{AreLines};
 ghost use Rattle.hub_rounds.specs.Rounds.{AreRounds};
 ghost use Rattle.hub_report.specs.Report.{unread_by};
-ghost use Rattle.hub_serve.specs.Told as told;
+ghost use Rattle.hub_serve.specs.Told.{IsToldAnyway};
 ghost use Rattle.hub_serve.specs.Rounds as rounds;
-ghost use Rattle.hub_serve.specs.Rounds.{DrawsClashes, IsUncut, WritesRounds};
+ghost use Rattle.hub_serve.specs.Rounds.{DrawsClashes, IsCut, IsUncut, OfApart, OfCut};
 ghost use Rattle.hub_serve.specs.declared.task.Task.TheVariants as task;
 
 use hub_apart::{Apart, lines_apart};
@@ -25,7 +24,7 @@ use std::alloc::{AllocError, Global};
 
 /// The answer with all that clashes in a set and all that breaks a rule, or that it is safe if nothing does.
 pub fn report_on_clashes<'a>(alloc: Global, set: &ProfileSet) -> Report<'a>
-    ensures told { (cs : List Certificate) → told.IsToldOfSet task.Clashes set.now cs result }
+    ensures told { IsToldAnyway task.Clashes set.now result }
     ensures read { unread_by result ≡ None }
 {
     let Ok(clashes) = clashes_of(alloc, set) else {
@@ -42,7 +41,7 @@ pub fn report_on_clashes<'a>(alloc: Global, set: &ProfileSet) -> Report<'a>
 
 /// The answer with a graph of a set and of all that clashes in it.
 pub fn report_on_graph<'a>(alloc: Global, set: &ProfileSet) -> Report<'a>
-    ensures told { (cs : List Certificate) → told.IsToldOfSet task.Graph set.now cs result }
+    ensures told { IsToldAnyway task.Graph set.now result }
     ensures read { unread_by result ≡ None }
 {
     match graph_of(alloc, set) {
@@ -63,7 +62,7 @@ fn graph_of(alloc: Global, set: &ProfileSet) -> Result<Graph, AllocError>
 
 /// The answer with the rounds of a set.
 pub fn report_on_rounds<'a>(alloc: Global, set: ProfileSet) -> Report<'a>
-    ensures told { (cs : List Certificate) → told.IsToldOfSet task.Rounds set cs result }
+    ensures told { IsToldAnyway task.Rounds set result }
     ensures read { unread_by result ≡ None }
 {
     report_on_cut(cut(alloc, set))
@@ -75,9 +74,8 @@ pub fn report_on_rounds_apart<'a>(
     profiles: Items<Profile>,
     rules: Rules,
 ) -> Report<'a>
-    ensures told { (S : Members) → S.profiles ≡ profiles → S.rules ≡ rules
-        → apart.are_put_apart S ≡ true → (cs : List Certificate)
-        → told.IsToldOfSet task.Rounds S cs result }
+    ensures told { OfMembers profiles rules (λ S. are_put_apart S ≡ true
+        → IsToldAnyway task.Rounds S result) }
     ensures read { unread_by result ≡ None }
 {
     match lines_apart(alloc, profiles, rules) {
@@ -88,10 +86,7 @@ pub fn report_on_rounds_apart<'a>(
 
 /// The answer with a cut, or that a round wasn't verified.
 fn report_on_cut<'a>(made: Result<Cut, RoundsFault>) -> Report<'a>
-    ensures told { (S : Members)
-        → IfOk made (λ c. WritesRounds S (string_bytes c.text) c.decided)
-        → IfErr made (IsUncut S) → (cs : List Certificate)
-        → told.IsToldOfSet task.Rounds S cs result }
+    ensures told { OfCut made (λ S. IsToldAnyway task.Rounds S result) }
     ensures read { unread_by result ≡ None }
 {
     match made {
@@ -103,7 +98,7 @@ fn report_on_cut<'a>(made: Result<Cut, RoundsFault>) -> Report<'a>
 
 /// Cuts a set into rounds.
 fn cut(alloc: Global, set: ProfileSet) -> Result<Cut, RoundsFault>
-    ensures cut { IfOk result (λ c. WritesRounds set (string_bytes c.text) c.decided) }
+    ensures cut { IfOk result (IsCut set) }
     ensures uncut { IfErr result (IsUncut set) }
 {
     let clashes = clashes_of(alloc, &set)?;
@@ -114,10 +109,8 @@ fn cut(alloc: Global, set: ProfileSet) -> Result<Cut, RoundsFault>
 
 /// Cuts profiles that are put apart into rounds.
 fn cut_apart(alloc: Global, found: Apart) -> Result<Cut, RoundsFault>
-    ensures cut { (S : Members) → S.profiles ≡ found.profiles → S.rules ≡ found.rules
-        → AreLines S found.lines → IfOk result (λ c. WritesRounds S (string_bytes c.text) c.decided) }
-    ensures uncut { (S : Members) → S.profiles ≡ found.profiles → S.rules ≡ found.rules
-        → AreLines S found.lines → IfErr result (IsUncut S) }
+    ensures cut { OfApart found (λ S. IfOk result (IsCut S)) }
+    ensures uncut { OfApart found (λ S. IfErr result (IsUncut S)) }
 {
     let Apart {
         profiles,
@@ -137,7 +130,7 @@ fn cut_of(
     undecided: String,
 ) -> Result<Cut, AllocError>
     ensures { (S : Members) → AreLines S lines.now → AreRounds S lines.now found.now
-        → IfOk result (λ c. WritesRounds S (string_bytes c.text) c.decided) }
+        → IfOk result (IsCut S) }
 {
     let decided = is_decided(lines, found);
     let text = text_of_rounds(alloc, found)?;

@@ -1,14 +1,12 @@
 //! Runs of the jobs of a safe set.
-ghost use Rattle.std.specs.Prelude.{◌≡◌, ◌↔◌, ℕ, List, map, true, IfErr, IfOk, IfSome, None};
-ghost use Rattle.hub_profile.specs.Parts.{Parts};
-ghost use Rattle.hub_cert.specs.Set.{IsSafeSet, Members, forbidden_by};
-ghost use Rattle.hub_cert.specs.declared.certificate.Certificate.{Certificate};
+ghost use Rattle.std.specs.Prelude.{◌≡◌, ◌↔◌, ℕ, true, IfErr, IfOk, IfSome, None};
+ghost use Rattle.hub_cert.specs.Set.{IsSafeSet, Members};
 ghost use Rattle.hub_state.specs.State.{State};
-ghost use Rattle.hub_schedule.specs.Simulated.{AreFinished, HaveEnded, IsPromised};
+ghost use Rattle.hub_schedule.specs.Simulated.{AreFinished, HaveEnded};
 ghost use Rattle.hub_runner.specs.Working.{IsNotRun, MayRun};
 ghost use Rattle.hub_report.specs.Report.{unread_by};
-ghost use Rattle.hub_serve.specs.Told as told;
-ghost use Rattle.hub_serve.specs.Runs.{ComesOf, HasRun, IsRunOn, PreventsRun, answer_of, attempt_of, error_of};
+ghost use Rattle.hub_serve.specs.Told.{IsToldAnyway};
+ghost use Rattle.hub_serve.specs.Runs.{ComesOf, HasRun, IsPromisedOf, IsRunOn, OfAttempt, OfUnrun, PreventsRun, answer_of, attempt_of, error_of};
 ghost use Rattle.hub_serve.specs.declared.task.Task.TheVariants as task;
 
 use crate::progress::{Jobs, Progress};
@@ -40,8 +38,7 @@ pub fn run_set<'a, T: Threads + Wait + Sync, P: Progress + Sync>(
     workers: u8,
     progress: &P,
 ) -> Report<'a>
-    ensures told { (cs : List Certificate) → told.IsToldOfSet (task.RunJobs workers state.now)
-        verified.now cs result }
+    ensures told { IsToldAnyway (task.RunJobs workers state.now) verified.now result }
     ensures read { unread_by result ≡ None }
 {
     match run_jobs(rt, alloc, verified, state, workers, progress) {
@@ -52,8 +49,7 @@ pub fn run_set<'a, T: Threads + Wait + Sync, P: Progress + Sync>(
 
 /// The answer with what came of the attempt to run the jobs.
 fn report_on_attempt<'a>(attempt: Attempt) -> Report<'a>
-    ensures told { (M : Members) (S : State) (n : ℕ) → IsSafeSet M → ComesOf M S n attempt
-        → (cs : List Certificate) → told.IsToldOfSet (task.RunJobs n S) M cs result }
+    ensures told { OfAttempt attempt (λ M S n. IsToldAnyway (task.RunJobs n S) M result) }
     ensures same { result ≡ Report.Run (answer_of attempt) }
     ensures read { unread_by result ≡ None }
 {
@@ -91,8 +87,7 @@ fn run_watched<T: Threads + Wait + Sync, P: Progress + Sync>(
     workers: usize,
     progress: &P,
 ) -> Result<Outcome, RunFault>
-    ensures promise { IfOk result (IsPromised state.now verified.now.profiles
-        (map forbidden_by verified.now.rules)) }
+    ensures promise { IfOk result (IsPromisedOf verified.now state.now) }
     ensures ended { IfOk result (λ o. HaveEnded o.jobs) }
     ensures run { IfOk result (λ o. MayRun state.now verified.now.profiles workers) }
     ensures refused { IfErr result (IsNotRun state.now verified.now.profiles workers) }
@@ -116,8 +111,7 @@ fn not_run(fault: RunFault) -> Result<Attempt, AllocError>
 /// Why the jobs weren't run. A `None` is that memory is out: `run` returns no `BadTurn`, which is of schedules alone.
 fn run_error(fault: RunFault) -> Option<RunError>
     ensures told { result ≡ error_of fault }
-    ensures reason { (S : State) (Ps : List Parts) (n : ℕ) → IsNotRun S Ps n fault
-        → IfSome result (PreventsRun S Ps n) }
+    ensures reason { OfUnrun fault (λ S Ps n. IfSome result (PreventsRun S Ps n)) }
 {
     match fault {
         RunFault::NoWorkers => Some(RunError::NoWorkers),

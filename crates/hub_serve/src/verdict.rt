@@ -1,10 +1,11 @@
 //! Answers about the set of a bundle's profiles and rules.
 ghost use Rattle.std.specs.Prelude.{◌≡◌, List, None, IfOk, IfErr};
 ghost use Rattle.hub_cert.specs.declared.certificate.Certificate.{Certificate};
-ghost use Rattle.hub_cert.specs.Set.{Members};
 ghost use Rattle.hub_report.specs.Report.{unread_by};
 ghost use Rattle.hub_cli.specs.Words.{about};
 ghost use Rattle.hub_serve.specs.Told as told;
+ghost use Rattle.hub_serve.specs.Told.{OfAnswer};
+ghost use Rattle.hub_cert.specs.Set.{OfMembers};
 ghost use Rattle.hub_serve.specs.declared.task.Task.{Task};
 ghost use Rattle.hub_serve.specs.declared.task.Task.TheVariants as task;
 
@@ -57,8 +58,7 @@ pub fn report_on_set<'a, T: Threads + Wait + Sync, P: Progress + Sync>(
 
 /// Whether rounds are asked for, and nested roots of profiles are all that keeps these from being a set.
 fn puts_apart(task: &Task, profiles: &[Profile], rules: &[Rule]) -> bool
-    ensures { (S : Members) → S.profiles ≡ profiles.now → S.rules ≡ rules.now
-        → result ≡ told.puts_apart task.now S }
+    ensures { OfMembers profiles.now rules.now (λ S. result ≡ told.puts_apart task.now S) }
 {
     match task {
         Task::Rounds => are_put_apart(profiles, rules),
@@ -104,10 +104,7 @@ fn or_refusal<'a>(
     set: &ProfileSet,
     answer: Result<Report<'a>, CheckFault>,
 ) -> Report<'a>
-    ensures told { (t : Task) (cs : List Certificate)
-        → IfOk answer.entry (told.IsToldOfSet t set.now cs)
-        → IfErr answer.entry (told.FaultOf t set.now cs)
-        → told.IsToldOfSet t set.now cs result }
+    ensures told { OfAnswer answer.entry set.now (λ t cs. told.IsToldOfSet t set.now cs result) }
     ensures read { IfOk answer.entry (λ r. unread_by r ≡ None) → unread_by result ≡ None }
 {
     match answer {

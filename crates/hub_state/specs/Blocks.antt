@@ -3,6 +3,7 @@
 use Rattle.std.specs.Prelude.{◌≡◌, ◌⊎◌, ℕ, ◌+◌, ◌≤◌, List, [], ◌∷◌, ◌++◌, length, Option, Some, None, Result, Ok, Err, IfSome}
 use Rattle.hub_text.specs.declared.line.Line.{Line as TextLine}
 use Rattle.hub_text.specs.Lines.{lines_of, line_text}
+use Rattle.hub_state.specs.declared.fault.Fault.{Fault}
 use Rattle.hub_state.specs.declared.fault.Fault.TheVariants.{Truncated, OutOfMemory, ReadFailed, TurnsSpent}
 use Rattle.hub_state.specs.declared.fault.StateFault.{StateFault}
 use Rattle.hub_state.specs.declared.draft.Draft.{Draft}
@@ -74,3 +75,25 @@ EndsReading input e =
     ⊎ ((e ≡ record { line = 0; fault = TurnsSpent })
     × IfSome input (λ bytes. READ_TURNS ≤ length bytes))
     ⊎ IfSome input (λ bytes. state_reading bytes ≡ Err e)
+
+-- The claim holds of each text from which this prefix was taken, or a fault; and of each that is
+-- read on from the prefix.
+abbrev pub OfTaken : {T : Type 0} → Prefix → Result T StateFault → (List ℕ → Type 0) → Type 0
+OfTaken p taken C = (bytes : List ℕ) → Stands bytes p taken → C bytes
+
+abbrev pub OfReadOn : Prefix → (List ℕ → Type 0) → Type 0
+OfReadOn p C = (bytes : List ℕ) → ReadsOn bytes p → C bytes
+
+-- All bytes of the input were taken, if they are known.
+abbrev pub StandsAtEnd : {T : Type 0} → Option (List ℕ) → Prefix → Result T StateFault → Type 0
+StandsAtEnd input p taken =
+    (read : List ℕ) × Stands read p taken × IfSome input (λ bytes. read ≡ bytes)
+
+-- Why so many reads didn't meet the end of an input.
+abbrev pub StopsReading : Option (List ℕ) → ℕ → Fault → Type 0
+StopsReading input turns f =
+    (f ≡ ReadFailed) ⊎ ((f ≡ TurnsSpent) × IfSome input (λ bytes. turns ≤ length bytes))
+
+-- The most that is left after more bytes.
+abbrev pub most_after : Prefix → List ℕ → ℕ
+most_after p more = p.number + length p.rest.items + length more

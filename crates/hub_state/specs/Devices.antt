@@ -5,6 +5,7 @@ use Rattle.hub_state.specs.declared.fault.Fault.{Fault}
 use Rattle.hub_state.specs.declared.fault.Fault.TheVariants.{ReadFailed, WriteFailed, TurnsSpent, OutOfMemory}
 use Rattle.hub_state.specs.declared.fault.StateFault.{StateFault}
 use Rattle.hub_state.specs.Writing.{joined_lines}
+use Rattle.hub_text.specs.declared.watched.Watched.{Watched}
 
 -- These bytes come after what the writer holds and the buffer before. The writer then holds some of
 -- them, and the buffer has the others.
@@ -15,6 +16,11 @@ Passes old new before after bytes =
 -- Why a writing stops: memory is out, or a write failed.
 abbrev pub StopsWriting : Fault → Type 0
 StopsWriting f = (f ≡ OutOfMemory) ⊎ (f ≡ WriteFailed)
+
+-- The same of a fault with its line, which is none.
+abbrev pub EndsWriting : StateFault → Type 0
+EndsWriting e =
+    (e ≡ record { line = 0; fault = OutOfMemory }) ⊎ (e ≡ record { line = 0; fault = WriteFailed })
 
 abbrev pub is_write_failed : Fault → Bool
 is_write_failed WriteFailed = true
@@ -46,7 +52,19 @@ abbrev pub reports : {T : Type 0} → (Fault → Bool) → Result T StateFault �
 reports f (Ok x) = false
 reports f (Err e) = f e.fault
 
--- The same of these lines.
-abbrev pub PassesLines : Option (List ℕ) → Option (List ℕ) → List ℕ → List ℕ → List (List ℕ)
+-- The same of a writer before and after, of which this function tells the bytes; and of these lines.
+abbrev pub PassesOver : {D : Type 0} → Watched D → Watched D → (D → Option (List ℕ)) → List ℕ
+    → List ℕ → List ℕ → Type 0
+PassesOver output output_after contents before after bytes =
+    Passes (contents output.device) (contents output_after.device) before after bytes
+
+abbrev pub PassesLines : {D : Type 0} → Watched D → Watched D → (D → Option (List ℕ)) → List ℕ
+    → List ℕ → List (List ℕ) → Type 0
+PassesLines output output_after contents before after ls =
+    PassesOver output output_after contents before after (joined_lines ls)
+
+-- These bytes, and no others, were written to such a writer.
+abbrev pub AppendsOver : {D : Type 0} → Watched D → Watched D → (D → Option (List ℕ)) → List ℕ
     → Type 0
-PassesLines old new before after ls = Passes old new before after (joined_lines ls)
+AppendsOver output output_after contents bytes =
+    Appends (contents output.device) (contents output_after.device) bytes

@@ -1,5 +1,5 @@
 -- Which bytes are state texts, of version 1 or 2, what they say, and the first fault of all others.
-use Rattle.std.specs.Prelude.{ℕ, ◌+◌, Bool, true, false, not, ◌&&◌, ◌||◌, ◌==◌, nat_eq, nat_le, nat_lt, List, [], ◌∷◌, map, drop, length, Option, Some, None, Result, Ok, Err, is_some, if◌then◌else◌, codes, bytes_eq}
+use Rattle.std.specs.Prelude.{◌≡◌, ℕ, ◌+◌, Bool, true, false, not, ◌&&◌, ◌||◌, ◌==◌, nat_eq, nat_le, nat_lt, List, [], ◌∷◌, map, drop, length, Option, Some, None, Result, Ok, Err, is_some, if◌then◌else◌, codes, bytes_eq}
 use Rattle.std.specs.List.{list_any, starts_with, before_first, after_first}
 use Rattle.std.specs.Str.{is_utf8, chars}
 use Rattle.std.specs.FinMap as fin
@@ -16,7 +16,7 @@ use Rattle.hub_tree.specs.declared.contents.Mark.TheVariants as mark
 use Rattle.hub_tree.specs.Tree.{is_directory}
 use Rattle.hub_state.specs.declared.TheConstants.{ENTRIES, BLOBS, FILE_BYTES}
 use Rattle.hub_state.specs.declared.fault.Fault.{Fault}
-use Rattle.hub_state.specs.declared.fault.Fault.TheVariants.{BadHeader, BadLine, BadPath, BadHex, NoParent, Repeated, TooLarge, Truncated, UnknownBlob, WrongDigest}
+use Rattle.hub_state.specs.declared.fault.Fault.TheVariants.{BadHeader, BadLine, BadPath, BadHex, NoParent, Repeated, TooLarge, Truncated, OutOfMemory, UnknownBlob, WrongDigest}
 use Rattle.hub_state.specs.declared.fault.StateFault.{StateFault}
 use Rattle.hub_state.specs.declared.form.Form.{Form}
 use Rattle.hub_state.specs.declared.form.Form.TheVariants as form
@@ -26,7 +26,7 @@ use Rattle.hub_state.specs.declared.form.Version.TheVariants.{One, Two}
 use Rattle.hub_state.specs.State.{State, Text, root_text, pair_of}
 use Rattle.hub_state.specs.Writing.{state_header, end_line}
 use Rattle.hub_text.specs.Blanks.{is_space}
-use Rattle.hub_text.specs.Fails.{and_then}
+use Rattle.hub_text.specs.Fails.{Fails, and_then}
 
 -- Blobs: the digest and the bytes of each, the last one first.
 abbrev pub Blobs : Type 0
@@ -87,6 +87,20 @@ line_among (w ∷ ws) l =
 abbrev pub line_of : List ℕ → Option Line
 line_of l =
     if bytes_eq l end_line then Some (record { form = form.End; rest = [] }) else line_among words l
+
+-- The line has this form, and this follows its word.
+abbrev pub HasForm : Option Line → Form → List ℕ → Type 0
+HasForm l f t = l ≡ Some (record { form = f; rest = t })
+
+-- A text with a space is this field and the rest, before and after its first space.
+abbrev pub AreFields : List ℕ → List ℕ → List ℕ → Type 0
+AreFields text field rest =
+    (list_any is_space text ≡ true) × (field ≡ before_first is_space text)
+    × (rest ≡ after_first is_space text)
+
+-- The fault is that memory is out, or the fault of the reading.
+abbrev pub FailsReading : {T : Type 0} → Result T Fault → Fault → Type 0
+FailsReading reading = Fails OutOfMemory reading
 
 abbrev pub is_half : Section → Bool
 is_half section.Nothing = false

@@ -83,3 +83,12 @@ HaveSameArchives S T =
 abbrev pub IsPut : State → Path → Path → Archive → Path → Path → Type 0
 IsPut S r s a p q =
     archive_at (with_archive S r s a) p q ≡ (if is_pair r s p q then Some a else archive_at S p q)
+
+-- A replica that is put at a root is there, and no other root's changes.
+abbrev pub IsReplicaPut : State → Path → Replica → Path → Type 0
+IsReplicaPut S r m q =
+    replica_at (with_replica S r m) q ≡ (if path_eq q r then Some m else replica_at S q)
+
+-- The claim holds if both paths are places.
+abbrev pub IfPlaces : Path → Path → Type 0 → Type 0
+IfPlaces r s C = IsTrue (is_place r) → IsTrue (is_place s) → C

@@ -4,6 +4,7 @@ use Rattle.std.specs.Prelude.{◌≡◌, ◌≢◌, ◌⊎◌, ℕ, ◌+◌, Boo
 use Rattle.std.specs.List.{list_any, before_first, after_first}
 use Rattle.std.specs.Str.{is_utf8}
 use Rattle.std.specs.FinMap as fin
+use denote.Ref.{Bor}
 use Rattle.sha2.specs.Sha256.{sha256}
 use Rattle.hub_path.specs.Path.{Path, path_eq, name_cmp, parent}
 use Rattle.hub_tree.specs.declared.contents.Contents.{Contents}
@@ -27,6 +28,7 @@ use Rattle.hub_state.specs.State.{State, replica_at, archive_at, with_replica, w
 use Rattle.hub_state.specs.Writing.{state_header, end_line}
 use Rattle.hub_state.specs.Reading.{Line, line_of, may_stand, unless, root_field, path_field, bytes_field, digest_field, blob_found}
 use Rattle.hub_text.specs.Blanks.{is_space}
+use Rattle.hub_text.specs.declared.line.Line.{Line as TextLine}
 use Rattle.hub_text.specs.Fails.{and_then}
 
 -- The section that is open.
@@ -86,6 +88,13 @@ other_taken a opened.Nothing s = Err BadLine
 other_taken a (opened.Replica r t) s = Err BadLine
 other_taken a (opened.HalfArchive r) s = pair_begun a r s
 other_taken a (opened.Archive r q m) s = Err BadLine
+
+-- What the other root of an archive adds to a draft, and which root it already has.
+abbrev pub other_root_taken : Draft → Path → Result Draft Fault
+other_root_taken a s = other_taken a a.current s
+
+abbrev pub OpensPair : Draft → Path → Path → Type 0
+OpensPair a r s = other_root_taken a s ≡ Ok (with_pair_open a r s)
 
 -- The blobs of a text by their digests.
 abbrev pub BlobMap : Type 0
@@ -222,6 +231,10 @@ abbrev pub last_taken : ℕ → Draft → Bool → List ℕ → Result State Fau
 last_taken n a whole l =
     and_then (unless (not (bytes_eq l end_line) && not (whole && a.ended)) Truncated
     (numbered_taken n a l)) (λ b. Ok (closed b.state b.current))
+
+-- The same of a borrowed line.
+abbrev pub last_line_taken : ℕ → Draft → TextLine (Bor (List ℕ)) → Result State Fault
+last_line_taken n a l = last_taken n a l.is_ended l.text.now
 
 abbrev pub is_memory : Fault → Bool
 is_memory OutOfMemory = true

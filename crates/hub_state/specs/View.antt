@@ -1,10 +1,12 @@
 -- The maps from texts that hold a state.
-use Rattle.std.specs.Prelude.{List, [], ◌∷◌, ◌++◌, map, String, string_bytes}
+use Rattle.std.specs.Prelude.{◌≡◌, ℕ, Option, List, [], ◌∷◌, ◌++◌, map, String, string_bytes}
 use Rattle.std.specs.FinMap as fin
+use Rattle.std.specs.List.{flat_map}
 use Rattle.std.specs.BTreeMap.{BTreeMap}
 use Rattle.hub_path.specs.Path.{name_cmp, path_cmp}
 use Rattle.hub_tree.specs.Tree.{Replica, Archive}
 use Rattle.hub_state.specs.State.{State, Text}
+use Rattle.hub_state.specs.Writing.{replica_files}
 
 -- Entries by the bytes of their keys, with what f has of their values.
 abbrev pub keyed : {Z X Y : Type 0} → (X → Y) → List (String Z × X) → List (Text × Y)
@@ -35,6 +37,24 @@ map_in es = fin.from_entries (by_text es)
 abbrev pub pairs_in : {Z X : Type 0} → List (String Z × BTreeMap (String Z) X)
     → fin.FinMap path_cmp X
 pairs_in es = fin.from_entries (pairs (by_two es))
+
+-- The value under two texts.
+abbrev pub pair_in : {Z X : Type 0} → List (String Z × BTreeMap (String Z) X) → Text → Text
+    → Option X
+pair_in es t u = fin.get (pairs_in es) (t ∷ u ∷ [])
+
+-- A value is put under a text, and under two.
+abbrev pub Puts : {Z X : Type 0} → List (String Z × X) → List (String Z × X) → String Z → X
+    → Type 0
+Puts old new text x = map_in new ≡ fin.insert (map_in old) (string_bytes text) x
+
+abbrev pub PutsPair : {Z X : Type 0} → List (String Z × BTreeMap (String Z) X)
+    → List (String Z × BTreeMap (String Z) X) → Text → Text → X → Type 0
+PutsPair old new t u x = pairs_in new ≡ fin.insert (pairs_in old) (t ∷ u ∷ []) x
+
+-- The files of the replicas under these texts.
+abbrev pub files_in : {Z : Type 0} → List (String Z × Replica) → List (List ℕ)
+files_in es = flat_map replica_files (by_text es)
 
 abbrev pub state_in : {Z : Type 0} → List (String Z × Replica)
     → List (String Z × BTreeMap (String Z) Archive) → State

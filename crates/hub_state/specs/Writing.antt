@@ -1,6 +1,6 @@
 -- The text of a state, by its bytes: version 2, or version 1 if two files of one digest have
 -- different bytes.
-use Rattle.std.specs.Prelude.{ℕ, Bool, not, ◌||◌, ◌==◌, List, [], ◌∷◌, ◌++◌, map, length, codes, bytes_eq, if◌then◌else◌}
+use Rattle.std.specs.Prelude.{◌≡◌, ℕ, Bool, not, ◌||◌, ◌==◌, List, [], ◌∷◌, ◌++◌, map, length, codes, bytes_eq, if◌then◌else◌}
 use Rattle.std.specs.List.{flat_map, list_all}
 use Rattle.std.specs.FinMap as fin
 use Rattle.std.specs.Str.{encode_utf8_all}
@@ -12,6 +12,9 @@ use Rattle.hub_tree.specs.declared.contents.Contents.{Contents}
 use Rattle.hub_tree.specs.declared.contents.Contents.TheVariants as contents
 use Rattle.hub_tree.specs.declared.contents.Mark.{Mark}
 use Rattle.hub_tree.specs.declared.contents.Mark.TheVariants as mark
+use Rattle.hub_tree.specs.Stored.{stored_contents}
+use Rattle.hub_tree.specs.declared.entries.Stored.{Stored}
+use Rattle.hub_state.specs.declared.blobs.Head.{Head}
 use Rattle.hub_state.specs.declared.form.Version.{Version}
 use Rattle.hub_state.specs.declared.form.Version.TheVariants.{One, Two}
 use Rattle.hub_state.specs.State.{State, Text}
@@ -64,14 +67,21 @@ pair_lines (r ∷ s ∷ ts) = (codes "archive " ++ r) ∷ (codes "with " ++ s) �
 abbrev pub archive_lines : List Text × Archive → List (List ℕ)
 archive_lines e = pair_lines e.0 ++ flat_map mark_lines (fin.entries e.1)
 
+-- The lines of what a replica has at a path.
+abbrev pub entry_lines : Version → Path → Stored → List (List ℕ)
+entry_lines v p s = contents_lines v (p, stored_contents s)
+
 -- The files of a state, each by its bytes.
 abbrev pub contents_files : Contents → List (List ℕ)
 contents_files (contents.File bytes) = bytes ∷ []
 contents_files contents.Directory = []
 contents_files contents.Absent = []
 
+abbrev pub files_of : Replica → List (List ℕ)
+files_of m = flat_map (λ x. contents_files x.1) (fin.entries m)
+
 abbrev pub replica_files : Text × Replica → List (List ℕ)
-replica_files e = flat_map (λ x. contents_files x.1) (fin.entries e.1)
+replica_files e = files_of e.1
 
 abbrev pub state_files : State → List (List ℕ)
 state_files S = flat_map replica_files (fin.entries S.replicas)
@@ -90,6 +100,10 @@ blob_line b = codes "blob " ++ encode_lower b.0 ++ 32 ∷ hex_field b.1
 abbrev pub blob_lines : Version → List (List ℕ) → List (List ℕ)
 blob_lines One fs = []
 blob_lines Two fs = map blob_line (fin.entries (blobs_of fs))
+
+-- The blobs of a head are written as those of a text with these files.
+abbrev pub HasBlobsOf : Head → List (List ℕ) → Type 0
+HasBlobsOf h fs = map blob_line (fin.entries h.blobs) ≡ blob_lines h.version fs
 
 -- Whether all of these files with one digest have the same bytes.
 abbrev pub tell_apart : List (List ℕ) → Bool
@@ -114,6 +128,13 @@ state_lines S = version_lines (version_of (state_files S)) S
 -- Each line ends with LF.
 abbrev pub joined_lines : List (List ℕ) → List ℕ
 joined_lines ls = flat_map (λ l. l ++ 10 ∷ []) ls
+
+-- Bytes after these lines, or this line, were added to those before.
+abbrev pub AddsLines : List ℕ → List ℕ → List (List ℕ) → Type 0
+AddsLines before after ls = after ≡ before ++ joined_lines ls
+
+abbrev pub AddsLine : List ℕ → List ℕ → List ℕ → Type 0
+AddsLine before after l = after ≡ before ++ l ++ 10 ∷ []
 
 unfoldable pub state_text : State → List ℕ
 state_text S = joined_lines (state_lines S)

@@ -1,11 +1,10 @@
-ghost use Rattle.std.specs.Prelude.{◌≡◌, Some, None, map, IfOk, OnOk, if◌then◌else◌};
+ghost use Rattle.std.specs.Prelude.{◌≡◌, Some, None, IfOk, OnOk, if◌then◌else◌};
 ghost use Rattle.std.specs.FinMap as fin;
-ghost use Rattle.std.specs.List.{flat_map};
 ghost use Rattle.std.specs.Option.{option_map};
 ghost use Rattle.sha2.specs.Sha256.{sha256};
-ghost use Rattle.hub_state.specs.forms.Adding.{file_added, files_added};
-ghost use Rattle.hub_state.specs.View.{by_text};
-ghost use Rattle.hub_state.specs.Writing.{contents_files, replica_files, blob_line, blob_lines, version_of};
+ghost use Rattle.hub_state.specs.forms.Adding.{AreAdded, file_added, files_added};
+ghost use Rattle.hub_state.specs.View.{files_in};
+ghost use Rattle.hub_state.specs.Writing.{HasBlobsOf, contents_files, files_of, version_of};
 ghost use Rattle.hub_tree.specs.Stored.{stored_contents};
 
 use crate::form::Version;
@@ -99,8 +98,8 @@ impl Blobs {
     /// Adds the blob of what a replica has at a path, if that is a file. Returns `false` if there is another one with its
     /// digest.
     fn add_stored(&mut self, stored: Stored<'_>) -> Result<bool, AllocError>
-        ensures { IfOk result (λ b. (if b then Some self.new else None)
-            ≡ files_added (Some self.old) (contents_files (stored_contents stored.entry))) }
+        ensures { IfOk result
+            (λ b. AreAdded b self.old self.new (contents_files (stored_contents stored.entry))) }
     {
         match stored {
             Stored::File(blob) => self.add(blob),
@@ -110,9 +109,7 @@ impl Blobs {
 
     /// Adds the blobs of a replica's files. Returns `false` if two of all these have one digest and different bytes.
     fn add_files(&mut self, tree: &Tree) -> Result<bool, AllocError>
-        ensures { IfOk result (λ b. (if b then Some self.new else None)
-            ≡ files_added (Some self.old)
-            (flat_map (λ x. contents_files x.1) (fin.entries tree.now))) }
+        ensures { IfOk result (λ b. AreAdded b self.old self.new (files_of tree.now)) }
     {
         for entry in tree.entries()? {
             let (_place, stored) = entry?;
@@ -136,10 +133,8 @@ pub struct Head {
 
 /// The version in which the files of these replicas are written, and the blobs that they name.
 pub fn head_of(alloc: Global, replicas: &BTreeMap<String, Tree>) -> Result<Head, AllocError>
-    ensures version { IfOk result (λ h. h.version
-        ≡ version_of (flat_map replica_files (by_text replicas.now.entries))) }
-    ensures blobs { IfOk result (λ h. map blob_line (fin.entries h.blobs)
-        ≡ blob_lines h.version (flat_map replica_files (by_text replicas.now.entries))) }
+    ensures version { IfOk result (λ h. h.version ≡ version_of (files_in replicas.now.entries)) }
+    ensures blobs { IfOk result (λ h. HasBlobsOf h (files_in replicas.now.entries)) }
 {
     let found = blobs_in(alloc, replicas)?;
     match found {
@@ -156,8 +151,7 @@ pub fn head_of(alloc: Global, replicas: &BTreeMap<String, Tree>) -> Result<Head,
 
 /// The blobs of the files of these replicas, if no two of them have one digest and different bytes.
 fn blobs_in(alloc: Global, replicas: &BTreeMap<String, Tree>) -> Result<Option<Blobs>, AllocError>
-    ensures { IfOk result (λ o. o
-        ≡ files_added (Some fin.empty) (flat_map replica_files (by_text replicas.now.entries))) }
+    ensures { IfOk result (λ o. o ≡ files_added (Some fin.empty) (files_in replicas.now.entries)) }
 {
     let mut blobs = Blobs::new(alloc);
     for (_root, tree) in replicas.iter() {

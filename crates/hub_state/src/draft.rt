@@ -1,6 +1,5 @@
-ghost use Rattle.std.specs.Prelude.{◌≡◌, ◌≢◌, Ok, Err, IfOk, IfErr, IsTrue, OnOk};
-ghost use Rattle.hub_text.specs.Fails.{Fails};
-ghost use Rattle.hub_path.specs.Path.{is_path};
+ghost use Rattle.std.specs.Prelude.{◌≡◌, ◌≢◌, Ok, Err, IfOk, IfErr, OnOk};
+ghost use Rattle.hub_state.specs.Reading.{FailsReading};
 ghost use Rattle.hub_state.specs.Reading.{may_stand};
 ghost use Rattle.hub_state.specs.State as spec;
 ghost use Rattle.hub_state.specs.Taking as taking;
@@ -87,8 +86,7 @@ impl Draft {
     pub fn take(&mut self, alloc: Global, line: &[u8]) -> Result<(), Fault>
         requires { IsApart self.old.current }
         ensures ok { OnOk result (taking.line_taken self.old line.now ≡ Ok self.new) }
-        ensures err { IfErr result
-            (Fails Fault.OutOfMemory (taking.line_taken self.old line.now)) }
+        ensures err { IfErr result (FailsReading (taking.line_taken self.old line.now)) }
         ensures apart { OnOk result (IsApart self.new.current) }
     {
         let Ok(line) = from_utf8(line) else {
@@ -110,8 +108,7 @@ impl Draft {
     fn take_form(&mut self, alloc: Global, form: Form, rest: &str) -> Result<(), Fault>
         requires { IsApart self.old.current }
         ensures ok { OnOk result (taking.form_taken self.old form rest.now ≡ Ok self.new) }
-        ensures err { IfErr result
-            (Fails Fault.OutOfMemory (taking.form_taken self.old form rest.now)) }
+        ensures err { IfErr result (FailsReading (taking.form_taken self.old form rest.now)) }
         ensures apart { OnOk result (IsApart self.new.current) }
     {
         match form {
@@ -150,7 +147,7 @@ impl Draft {
         ensures ok { OnOk result
             (taking.form_taken self.old Form.Blob fields.now ≡ Ok self.new) }
         ensures err { IfErr result
-            (Fails Fault.OutOfMemory (taking.form_taken self.old Form.Blob fields.now)) }
+            (FailsReading (taking.form_taken self.old Form.Blob fields.now)) }
         ensures apart { OnOk result (IsApart self.new.current) }
     {
         let Some(blobs) = &mut self.blobs else {
@@ -166,8 +163,7 @@ impl Draft {
     fn begin_replica(&mut self, alloc: Global, root: Root) -> Result<(), Fault>
         requires { IsApart self.old.current }
         ensures ok { OnOk result (taking.replica_begun self.old root ≡ Ok self.new) }
-        ensures err { IfErr result
-            (Fails Fault.OutOfMemory (taking.replica_begun self.old root)) }
+        ensures err { IfErr result (FailsReading (taking.replica_begun self.old root)) }
         ensures apart { OnOk result (IsApart self.new.current) }
     {
         self.close()?;
@@ -190,10 +186,8 @@ impl Draft {
 
     /// Takes the other root of an archive.
     fn begin_pair(&mut self, alloc: Global, second: Root) -> Result<(), Fault>
-        ensures ok { OnOk result
-            (taking.other_taken self.old self.old.current second ≡ Ok self.new) }
-        ensures err { IfErr result
-            (Fails Fault.OutOfMemory (taking.other_taken self.old self.old.current second)) }
+        ensures ok { OnOk result (taking.other_root_taken self.old second ≡ Ok self.new) }
+        ensures err { IfErr result (FailsReading (taking.other_root_taken self.old second)) }
         ensures apart { OnOk result (IsApart self.new.current) }
     {
         let first = self.first_root(&second)?;
@@ -203,10 +197,8 @@ impl Draft {
 
     /// Returns the root that the archive has already, if this may be its other root.
     fn first_root(&self, second: &Root) -> Result<Root, Fault>
-        ensures ok { IfOk result (λ first. taking.other_taken self.now self.now.current second.now
-            ≡ Ok (taking.with_pair_open self.now first second.now)) }
-        ensures err { IfErr result (Fails Fault.OutOfMemory
-            (taking.other_taken self.now self.now.current second.now)) }
+        ensures ok { IfOk result (λ first. taking.OpensPair self.now first second.now) }
+        ensures err { IfErr result (FailsReading (taking.other_root_taken self.now second.now)) }
         ensures apart { IfOk result (λ first. first ≢ second.now) }
     {
         let Open::HalfArchive(first) = &self.current else {
@@ -227,8 +219,7 @@ impl Draft {
         ensures ok { OnOk result
             (taking.form_taken self.old Form.Dir field.now
             ≡ Ok self.new) }
-        ensures err { IfErr result
-            (Fails Fault.OutOfMemory (taking.form_taken self.old Form.Dir field.now)) }
+        ensures err { IfErr result (FailsReading (taking.form_taken self.old Form.Dir field.now)) }
         ensures apart { OnOk result (IsApart self.new.current) }
     {
         let path = self.near.read(field)?;
@@ -248,7 +239,7 @@ impl Draft {
         requires { IsApart self.old.current }
         ensures ok { OnOk result (taking.form_taken self.old Form.File fields.now ≡ Ok self.new) }
         ensures err { IfErr result
-            (Fails Fault.OutOfMemory (taking.form_taken self.old Form.File fields.now)) }
+            (FailsReading (taking.form_taken self.old Form.File fields.now)) }
         ensures apart { OnOk result (IsApart self.new.current) }
     {
         let Some((field, text)) = fields_of(fields) else {
@@ -289,7 +280,7 @@ impl Open {
 fn put_blob(alloc: Global, blobs: &mut Blobs, field: &str, text: &str) -> Result<(), Fault>
     ensures ok { OnOk result (taking.blob_fields_put blobs.old field.now text.now ≡ Ok blobs.new) }
     ensures err { IfErr result
-        (Fails Fault.OutOfMemory (taking.blob_fields_put blobs.old field.now text.now)) }
+        (FailsReading (taking.blob_fields_put blobs.old field.now text.now)) }
 {
     let digest = digest_in(field)?;
     let bytes = bytes_in(alloc, text)?;

@@ -1,11 +1,11 @@
 //! Entries that are put into replicas and archives.
-ghost use Rattle.std.specs.Prelude.{◌≡◌, ◌<◌, None, Some, Ok, Err, false, is_some, nat_le, IfErr, IfOk, IsTrue, OnOk};
+ghost use Rattle.std.specs.Prelude.{◌≡◌, ◌<◌, None, Some, Ok, Err, false, is_some, nat_le, option_copied, IfErr, IfOk, IsTrue, OnOk};
 ghost use Rattle.std.specs.FinMap as fin;
-ghost use Rattle.std.specs.Option.{option_map};
-ghost use Rattle.hub_text.specs.Fails.{Fails};
+ghost use Rattle.hub_state.specs.Reading.{FailsReading};
 ghost use Rattle.hub_path.specs.Path.{is_path};
 ghost use Rattle.hub_tree.specs.Tree.{is_absent, kept_mark};
 ghost use Rattle.hub_state.specs.Taking as taking;
+ghost use Rattle.hub_state.specs.Taking.{shared_put};
 
 use crate::blobs::Blobs;
 use crate::fault::Fault;
@@ -32,7 +32,7 @@ pub fn put_file(
     ensures ok { OnOk result
         (taking.file_put blobs.now entries tree.old field.now text.now ≡ Ok tree.new) }
     ensures err { IfErr result
-        (Fails Fault.OutOfMemory (taking.file_put blobs.now entries tree.old field.now text.now)) }
+        (FailsReading (taking.file_put blobs.now entries tree.old field.now text.now)) }
     ensures room { OnOk result (entries < ENTRIES) }
 {
     match blobs {
@@ -52,8 +52,8 @@ fn put_named(
 ) -> Result<(), Fault>
     ensures ok { OnOk result
         (taking.digest_put blobs.now entries tree.old field.now text.now ≡ Ok tree.new) }
-    ensures err { IfErr result (Fails Fault.OutOfMemory
-        (taking.digest_put blobs.now entries tree.old field.now text.now)) }
+    ensures err { IfErr result
+        (FailsReading (taking.digest_put blobs.now entries tree.old field.now text.now)) }
     ensures room { OnOk result (entries < ENTRIES) }
 {
     let digest = digest_in(field)?;
@@ -69,10 +69,10 @@ fn put_shared(
     path: &RelPath,
 ) -> Result<(), Fault>
     requires { IsTrue (is_path path.now) }
-    ensures ok { OnOk result (taking.shared_put entries tree.old path.now
-        (option_map (λ b. b.now) blob.entry) ≡ Ok tree.new) }
-    ensures err { IfErr result (Fails Fault.OutOfMemory (taking.shared_put entries tree.old path.now
-        (option_map (λ b. b.now) blob.entry))) }
+    ensures ok { OnOk result
+        (shared_put entries tree.old path.now (option_copied blob.entry) ≡ Ok tree.new) }
+    ensures err { IfErr result
+        (FailsReading (shared_put entries tree.old path.now (option_copied blob.entry))) }
     ensures room { OnOk result (entries < ENTRIES) }
 {
     let Some(blob) = blob else {
@@ -84,7 +84,7 @@ fn put_shared(
 /// Why a file can't be put after this many entries that names a blob which the text doesn't have.
 fn fault_without_blob(tree: &Tree, entries: usize, path: &RelPath) -> Fault
     requires { IsTrue (is_path path.now) }
-    ensures { taking.shared_put entries tree.now path.now None ≡ Err result }
+    ensures { shared_put entries tree.now path.now None ≡ Err result }
 {
     if is_full(entries) {
         return Fault::TooLarge;
@@ -107,7 +107,7 @@ fn put_bytes(
 ) -> Result<(), Fault>
     ensures ok { OnOk result (taking.bytes_put entries tree.old field.now text.now ≡ Ok tree.new) }
     ensures err { IfErr result
-        (Fails Fault.OutOfMemory (taking.bytes_put entries tree.old field.now text.now)) }
+        (FailsReading (taking.bytes_put entries tree.old field.now text.now)) }
     ensures room { OnOk result (entries < ENTRIES) }
 {
     let bytes = bytes_in(alloc, field)?;
@@ -157,7 +157,7 @@ pub fn put_contents(
     ensures ok { OnOk result
         (taking.contents_entered entries tree.old path.now contents ≡ Ok tree.new) }
     ensures err { IfErr result
-        (Fails Fault.OutOfMemory (taking.contents_entered entries tree.old path.now contents)) }
+        (FailsReading (taking.contents_entered entries tree.old path.now contents)) }
     ensures room { OnOk result (entries < ENTRIES) }
 {
     if is_full(entries) {
@@ -194,7 +194,7 @@ pub fn put_old_file(
     ensures ok { OnOk result
         (taking.old_file_put entries marks.old field.now text.now ≡ Ok marks.new) }
     ensures err { IfErr result
-        (Fails Fault.OutOfMemory (taking.old_file_put entries marks.old field.now text.now)) }
+        (FailsReading (taking.old_file_put entries marks.old field.now text.now)) }
     ensures room { OnOk result (entries < ENTRIES) }
 {
     let digest = digest_in(field)?;
@@ -209,7 +209,7 @@ pub fn put_mark(marks: &mut Marks, entries: usize, path: &RelPath, mark: Mark) -
     ensures ok { OnOk result
         (taking.mark_entered entries marks.old path.now mark ≡ Ok marks.new) }
     ensures err { IfErr result
-        (Fails Fault.OutOfMemory (taking.mark_entered entries marks.old path.now mark)) }
+        (FailsReading (taking.mark_entered entries marks.old path.now mark)) }
     ensures room { OnOk result (entries < ENTRIES) }
 {
     if is_full(entries) {

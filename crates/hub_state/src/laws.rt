@@ -1,10 +1,10 @@
 //! Laws of states and their text: each is the contract of a function that does nothing.
-ghost use Rattle.std.specs.Prelude.{◌≡◌, Ok, Some, IsTrue, if◌then◌else◌};
-ghost use Rattle.hub_path.specs.Path.{Path, is_place, path_eq};
+ghost use Rattle.std.specs.Prelude.{◌≡◌, Ok};
+ghost use Rattle.hub_path.specs.Path.{Path};
 ghost use Rattle.hub_tree.specs.Tree.{Replica, Archive};
 ghost use Rattle.hub_state.specs.Readable.{IsReadable};
 ghost use Rattle.hub_state.specs.Reading.{state_reading};
-ghost use Rattle.hub_state.specs.State.{State, IsState, replica_at, archive_at, with_replica, HaveSameArchives, HaveSameReplicas, IsPut};
+ghost use Rattle.hub_state.specs.State.{State, IsState, archive_at, HaveSameArchives, HaveSameReplicas, IfPlaces, IsPut, IsReplicaPut};
 ghost use Rattle.hub_state.specs.Writing.{state_text};
 
 /// The text of a state within the limits reads as the same state.
@@ -14,16 +14,14 @@ pub fn what_is_written_reads_back()
 
 /// A replica that is put at a root is there. The replicas of other roots stay.
 pub fn replicas_are_by_root()
-    ensures { (S : State) (r q : Path) (m : Replica) → IsTrue (is_place r) → IsTrue (is_place q)
-        → replica_at (with_replica S r m) q ≡ (if path_eq q r then Some m else replica_at S q) }
+    ensures { (S : State) (r q : Path) (m : Replica) → IfPlaces r q (IsReplicaPut S r m q) }
 {}
 
 /// An archive that is put at two roots is there, in either order of the roots. The archives of other pairs stay.
 pub fn archives_are_by_unordered_pair()
     ensures turned { (S : State) (r s : Path) → archive_at S r s ≡ archive_at S s r }
-    ensures put { (S : State) (r s p q : Path) (a : Archive) → IsTrue (is_place r)
-        → IsTrue (is_place s) → IsTrue (is_place p) → IsTrue (is_place q)
-        → IsPut S r s a p q }
+    ensures put { (S : State) (r s p q : Path) (a : Archive)
+        → IfPlaces r s (IfPlaces p q (IsPut S r s a p q)) }
 {}
 
 /// States with the same replica at each root and the same archive at each pair of roots are equal.

@@ -1,9 +1,8 @@
-ghost use Rattle.std.specs.Prelude.{◌≡◌, true, false, Ok, Err, Some, None, IfOk, IfErr, IsTrue, MatchOption};
-ghost use Rattle.std.specs.List.{list_any, before_first, after_first};
-ghost use Rattle.hub_text.specs.Fails.{Fails};
+ghost use Rattle.std.specs.Prelude.{◌≡◌, false, Ok, Err, Some, None, IfOk, IfErr, IsTrue, MatchOption};
+ghost use Rattle.std.specs.List.{list_any};
 ghost use Rattle.hub_path.specs.Path.{is_path};
 ghost use Rattle.hub_path.specs.Reading.{names_fault};
-ghost use Rattle.hub_state.specs.Reading.{line_of, line_among, words, inner_words};
+ghost use Rattle.hub_state.specs.Reading.{FailsReading, AreFields, HasForm, line_of, line_among, words, inner_words};
 ghost use Rattle.hub_state.specs.Reading.{path_field, root_field, bytes_field, digest_field};
 ghost use Rattle.hub_text.specs.Blanks.{is_space};
 
@@ -17,7 +16,7 @@ use std::alloc::Global;
 /// The form of a line, and what follows its word, if it has one.
 pub fn form_of(line: &str) -> Option<(Form, &str)>
     ensures { MatchOption result (line_of line.now ≡ None)
-        (λ x. line_of line.now ≡ Some (record { form = x.0; rest = x.1.now })) }
+        (λ x. HasForm (line_of line.now) x.0 x.1.now) }
 {
     if line == "end" {
         return Some((Form::End, ""));
@@ -28,7 +27,7 @@ pub fn form_of(line: &str) -> Option<(Form, &str)>
 /// The form of a line whose word a space follows, and what follows that.
 fn word_of(line: &str) -> Option<(Form, &str)>
     ensures { MatchOption result (line_among words line.now ≡ None)
-        (λ x. line_among words line.now ≡ Some (record { form = x.0; rest = x.1.now })) }
+        (λ x. HasForm (line_among words line.now) x.0 x.1.now) }
 {
     if let Some(rest) = line.strip_prefix("blob ") {
         return Some((Form::Blob, rest));
@@ -45,7 +44,7 @@ fn word_of(line: &str) -> Option<(Form, &str)>
 /// The same of a line within a section.
 fn inner_word_of(line: &str) -> Option<(Form, &str)>
     ensures { MatchOption result (line_among inner_words line.now ≡ None)
-        (λ x. line_among inner_words line.now ≡ Some (record { form = x.0; rest = x.1.now })) }
+        (λ x. HasForm (line_among inner_words line.now) x.0 x.1.now) }
 {
     if let Some(rest) = line.strip_prefix("with ") {
         return Some((Form::With, rest));
@@ -64,7 +63,7 @@ pub fn path_in(alloc: Global, field: &str) -> Result<RelPath, Fault>
     ensures ok { IfOk result (λ p. path_field field.now ≡ Ok p) }
     ensures valid { IfOk result (λ p. IsTrue (is_path p)) }
     ensures names { IfOk result (λ p. names_fault 0 p ≡ None) }
-    ensures err { IfErr result (Fails Fault.OutOfMemory (path_field field.now)) }
+    ensures err { IfErr result (FailsReading (path_field field.now)) }
 {
     match RelPath::read(alloc, field) {
         Ok(path) => Ok(path),
@@ -76,7 +75,7 @@ pub fn path_in(alloc: Global, field: &str) -> Result<RelPath, Fault>
 /// The root in a field.
 pub fn root_in(alloc: Global, field: &str) -> Result<Root, Fault>
     ensures ok { IfOk result (λ r. root_field field.now ≡ Ok r) }
-    ensures err { IfErr result (Fails Fault.OutOfMemory (root_field field.now)) }
+    ensures err { IfErr result (FailsReading (root_field field.now)) }
 {
     match Root::read(alloc, field) {
         Ok(root) => Ok(root),
@@ -88,7 +87,7 @@ pub fn root_in(alloc: Global, field: &str) -> Result<Root, Fault>
 /// The bytes in a field of hexadecimal digits; `-` stands for none.
 pub fn bytes_in(alloc: Global, field: &str) -> Result<Vec<u8>, Fault>
     ensures ok { IfOk result (λ v. bytes_field field.now ≡ Ok v.items) }
-    ensures err { IfErr result (Fails Fault.OutOfMemory (bytes_field field.now)) }
+    ensures err { IfErr result (FailsReading (bytes_field field.now)) }
 {
     if field == "-" {
         return Ok(Vec::new(alloc));
@@ -116,9 +115,7 @@ pub fn digest_in(field: &str) -> Result<[u8; 32], Fault>
 /// What is before the first space and what follows it, if there is one.
 pub fn fields_of(text: &str) -> Option<(&str, &str)>
     ensures { MatchOption result (list_any is_space text.now ≡ false)
-        (λ x. (list_any is_space text.now ≡ true)
-        × (x.0.now ≡ before_first is_space text.now)
-        × (x.1.now ≡ after_first is_space text.now)) }
+        (λ x. AreFields text.now x.0.now x.1.now) }
 {
     text.split_once(' ')
 }

@@ -1,6 +1,6 @@
 //! Paths that are read one after the other.
 ghost use Rattle.std.specs.Prelude.{◌≡◌, ◌++◌, ◌∷◌, [], None, Ok, Err, IfOk, IfErr, IfSome, IsTrue};
-ghost use Rattle.hub_text.specs.Fails.{Fails};
+ghost use Rattle.hub_state.specs.Reading.{FailsReading};
 ghost use Rattle.hub_path.specs.Path.{is_path};
 ghost use Rattle.hub_path.specs.Reading.{names_fault};
 ghost use Rattle.hub_state.specs.forms.Near.{IsReadFrom};
@@ -49,7 +49,7 @@ impl Near {
     pub fn read(&mut self, field: &str) -> Result<RelPath, Fault>
         ensures ok { IfOk result (λ p. path_field field.now ≡ Ok p) }
         ensures valid { IfOk result (λ p. IsTrue (is_path p)) }
-        ensures err { IfErr result (Fails Fault.OutOfMemory (path_field field.now)) }
+        ensures err { IfErr result (FailsReading (path_field field.now)) }
     {
         if let Some(path) = read_below(self.alloc, &self.last, field)? {
             let folder = replace(&mut self.last, path.copy()?);
@@ -67,7 +67,7 @@ impl Near {
     fn read_apart(&mut self, field: &str) -> Result<RelPath, Fault>
         ensures ok { IfOk result (λ p. path_field field.now ≡ Ok p) }
         ensures valid { IfOk result (λ p. IsTrue (is_path p)) }
-        ensures err { IfErr result (Fails Fault.OutOfMemory (path_field field.now)) }
+        ensures err { IfErr result (FailsReading (path_field field.now)) }
     {
         let path = path_in(self.alloc, field)?;
         let folder = folder_of(self.alloc, &path)?;

@@ -1,16 +1,16 @@
-ghost use Rattle.std.specs.Prelude.{◌≡◌, ◌⊎◌, ◌+◌, ◌*◌, ◌^◌, ◌<◌, ◌≤◌, ◌++◌, [], length, false, true, Ok, Err, List, ℕ};
-ghost use Rattle.std.specs.Prelude.{IfOk, IfErr, IfSome, IsErrOf, OnOk, vec_len};
-ghost use Rattle.std.specs.Result.{ForOk};
+ghost use Rattle.std.specs.Prelude.{◌≡◌, ◌+◌, ◌*◌, ◌^◌, ◌<◌, ◌≤◌, ◌++◌, [], length, false, true, Ok, Err};
+ghost use Rattle.std.specs.Prelude.{IfOk, IfErr, IsErrOf, OnOk, vec_len};
 ghost use Rattle.std.specs.Option.{option_map};
 ghost use Rattle.hub_text.specs.Fails.{Fails};
 ghost use Rattle.hub_text.specs.Lines.{line_text};
 ghost use Rattle.hub_text.specs.Takes.{of_bytes};
 ghost use Rattle.hub_state.specs.Blocks.{bytes_taken, taken_line_text, Leaves, Stops, ReadsOn, Stands};
-ghost use Rattle.hub_state.specs.Blocks.{IsWithin, IsReading, EndsReading, out_of_memory};
+ghost use Rattle.hub_state.specs.Blocks.{IsWithin, IsReading, EndsReading, OfReadOn, OfTaken, StandsAtEnd, StopsReading};
+ghost use Rattle.hub_state.specs.Blocks.{most_after, out_of_memory};
 ghost use Rattle.hub_state.specs.Devices.{is_not_of_text, is_read_failed, is_turns_spent, says, reports};
-ghost use Rattle.hub_state.specs.Reading.{state_reading};
+ghost use Rattle.hub_state.specs.Reading.{FailsReading, state_reading};
 ghost use Rattle.hub_state.specs.Taking as taking;
-ghost use Rattle.hub_state.specs.Taking.{IsApart};
+ghost use Rattle.hub_state.specs.Taking.{IsApart, TellsLine};
 
 use crate::draft::Draft;
 use crate::fault::{Fault, StateFault};
@@ -76,8 +76,7 @@ fn read_after<R: Read>(
 /// `OutOfMemory` has line 0, and may come in place of the state or of a fault.
 pub fn read_bytes(alloc: Global, bytes: &[u8]) -> Result<State, StateFault>
     ensures ok { IfOk result (λ s. state_reading bytes.now ≡ Ok s) }
-    ensures err { IfErr result (λ e. (e ≡ record { line = 0; fault = Fault.OutOfMemory })
-        ⊎ (state_reading bytes.now ≡ Err e)) }
+    ensures err { IfErr result (λ e. Fails out_of_memory (state_reading bytes.now) e) }
     ensures no_read { reports is_read_failed result ≡ false }
 {
     let _len = bytes.len();
@@ -123,11 +122,10 @@ fn read_blocks<R: Read>(
     requires turns { turns ≤ READ_TURNS }
     requires continues { ReadsOn [] prefix.old }
     requires within { IsWithin prefix.old 1 }
-    ensures whole { IfOk result (λ taken. (read : List ℕ) × Stands read prefix.new taken
-        × IfSome (R.remaining input.old.device) (λ bytes. read ≡ bytes)) }
+    ensures whole { IfOk result
+        (λ taken. StandsAtEnd (R.remaining input.old.device) prefix.new taken) }
     ensures within { IfOk result (λ taken. OnOk taken (IsWithin prefix.new (2 ^ 62))) }
-    ensures faults { IfErr result (λ e. (e ≡ Fault.ReadFailed) ⊎ ((e ≡ Fault.TurnsSpent)
-        × IfSome (R.remaining input.old.device) (λ bytes. turns ≤ length bytes))) }
+    ensures faults { IfErr result (λ e. StopsReading (R.remaining input.old.device) turns e) }
     ensures failed { input.new.failed ≡ says is_read_failed result }
     ensures at_end { OnOk result (input.new.at_end ≡ true) }
     ensures turns_spent { IsErrOf result Fault.TurnsSpent
@@ -156,10 +154,10 @@ fn take_block(
     block: &[u8],
 ) -> Result<(), StateFault>
     requires { OnOk taken (IsWithin prefix.old (2 ^ 62)) }
-    ensures stands { (bytes : List ℕ) → Stands bytes prefix.old taken
-        → Stands (bytes ++ block.now) prefix.new result }
-    ensures within { OnOk result (OnOk taken (IsWithin prefix.new
-        (prefix.old.number + length prefix.old.rest.items + length block.now))) }
+    ensures stands { OfTaken prefix.old taken
+        (λ bytes. Stands (bytes ++ block.now) prefix.new result) }
+    ensures within { OnOk result
+        (OnOk taken (IsWithin prefix.new (most_after prefix.old block.now))) }
     ensures stopped { IfErr taken (λ e. result ≡ Err e) }
 {
     match taken {
@@ -171,8 +169,8 @@ fn take_block(
 /// Takes more bytes.
 fn take_bytes(alloc: Global, prefix: &mut Prefix, bytes: &[u8]) -> Result<(), StateFault>
     requires { IsWithin prefix.old (2 ^ 62) }
-    ensures stands { (before : List ℕ) → ReadsOn before prefix.old
-        → Stands (before ++ bytes.now) prefix.new result }
+    ensures stands { OfReadOn prefix.old
+        (λ before. Stands (before ++ bytes.now) prefix.new result) }
     ensures within { OnOk result (IsWithin prefix.new
         (prefix.old.number + vec_len prefix.old.rest + length bytes.now)) }
 {
@@ -195,8 +193,7 @@ fn has_line_end(bytes: &[u8]) -> bool {
 fn take_whole_lines(alloc: Global, prefix: &mut Prefix) -> Result<(), StateFault>
     requires apart { IsApart prefix.old.draft.current }
     requires room { prefix.old.number + vec_len prefix.old.rest < 2 ^ 64 }
-    ensures stands { (bytes : List ℕ) → ReadsOn bytes prefix.old
-        → Stands bytes prefix.new result }
+    ensures stands { OfReadOn prefix.old (λ bytes. Stands bytes prefix.new result) }
     ensures within { OnOk result
         (IsWithin prefix.new (prefix.old.number + vec_len prefix.old.rest)) }
 {
@@ -241,10 +238,9 @@ fn finish(
     taken: Result<(), StateFault>,
 ) -> Result<State, StateFault>
     requires { OnOk taken (IsWithin prefix.old (2 ^ 62)) }
-    ensures ok { (bytes : List ℕ) → Stands bytes prefix.old taken
-        → IfOk result (λ s. state_reading bytes ≡ Ok s) }
-    ensures err { (bytes : List ℕ) → Stands bytes prefix.old taken
-        → IfErr result (Fails out_of_memory (state_reading bytes)) }
+    ensures ok { OfTaken prefix.old taken (λ bytes. IfOk result (λ s. state_reading bytes ≡ Ok s)) }
+    ensures err { OfTaken prefix.old taken
+        (λ bytes. IfErr result (Fails out_of_memory (state_reading bytes))) }
 {
     match taken {
         Ok(()) => {
@@ -325,8 +321,8 @@ fn take_line_at(
 ) -> Result<(), StateFault>
     requires { IsApart draft.old.current }
     ensures ok { OnOk result (taking.numbered_taken number draft.old line.now ≡ Ok draft.new) }
-    ensures err { IfErr result (λ e. taking.TellsLine number
-        (taking.numbered_taken number draft.old line.now) e) }
+    ensures err { IfErr result
+        (λ e. TellsLine number (taking.numbered_taken number draft.old line.now) e) }
     ensures apart { OnOk result (IsApart draft.new.current) }
 {
     match take_line(alloc, draft, number, line) {
@@ -346,10 +342,9 @@ fn take_last_at(
     line: Line<&[u8]>,
 ) -> Result<State, StateFault>
     requires { IsApart draft.old.current }
-    ensures ok { IfOk result (λ s. taking.last_taken number draft.old line.entry.is_ended
-        line.entry.text.now ≡ Ok s) }
-    ensures err { IfErr result (λ e. taking.TellsLine number
-        (taking.last_taken number draft.old line.entry.is_ended line.entry.text.now) e) }
+    ensures ok { IfOk result (λ s. taking.last_line_taken number draft.old line.entry ≡ Ok s) }
+    ensures err { IfErr result
+        (λ e. TellsLine number (taking.last_line_taken number draft.old line.entry) e) }
 {
     match take_end(alloc, draft, number, line) {
         Ok(()) => Ok(take_state(alloc, draft)),
@@ -364,8 +359,7 @@ fn take_last_at(
 fn take_line(alloc: Global, draft: &mut Draft, number: usize, line: &[u8]) -> Result<(), Fault>
     requires { IsApart draft.old.current }
     ensures ok { OnOk result (taking.numbered_taken number draft.old line.now ≡ Ok draft.new) }
-    ensures err { IfErr result
-        (Fails Fault.OutOfMemory (taking.numbered_taken number draft.old line.now)) }
+    ensures err { IfErr result (FailsReading (taking.numbered_taken number draft.old line.now)) }
     ensures apart { OnOk result (IsApart draft.new.current) }
 {
     if number == 1 {
@@ -384,10 +378,9 @@ fn take_state(alloc: Global, draft: &mut Draft) -> State
 /// Takes the last line. A text that is cut off is reported first.
 fn take_end(alloc: Global, draft: &mut Draft, number: usize, line: Line<&[u8]>) -> Result<(), Fault>
     requires { IsApart draft.old.current }
-    ensures ok { OnOk result (taking.last_taken number draft.old line.entry.is_ended
-        line.entry.text.now ≡ Ok draft.new.state) }
-    ensures err { IfErr result (Fails Fault.OutOfMemory
-        (taking.last_taken number draft.old line.entry.is_ended line.entry.text.now)) }
+    ensures ok { OnOk result
+        (taking.last_line_taken number draft.old line.entry ≡ Ok draft.new.state) }
+    ensures err { IfErr result (FailsReading (taking.last_line_taken number draft.old line.entry)) }
 {
     let is_end = line.text == b"end".as_slice();
     if !is_end && !(line.is_ended && draft.ended) {

@@ -1,10 +1,10 @@
-ghost use Rattle.std.specs.Prelude.{◌≡◌, ◌≢◌, [], ◌∷◌, length, string_bytes, IfOk, OnOk, OnErr};
+ghost use Rattle.std.specs.Prelude.{◌≡◌, ◌≢◌, [], ◌∷◌, IfOk, OnOk, OnErr};
 ghost use Rattle.std.specs.Option.{option_map, unwrap_or};
 ghost use Rattle.std.specs.BTreeMap.{insert_entry};
 ghost use Rattle.std.specs.FinMap as fin;
 ghost use Rattle.std.specs.String.{string_cmp};
 ghost use Rattle.hub_state.specs.State as spec;
-ghost use Rattle.hub_state.specs.View.{by_text, by_two, map_in, pairs_in};
+ghost use Rattle.hub_state.specs.View.{by_text, by_two, map_in, pair_in, pairs_in, Puts, PutsPair};
 
 use crate::unmarked::Unmarked;
 use hub_path::{RelPath, Root};
@@ -156,8 +156,7 @@ fn find_pair<'a>(
     first: &str,
     second: &str,
 ) -> Option<&'a Archive>
-    ensures { option_map (λ a. a.now) result
-        ≡ fin.get (pairs_in archives.now.entries) (first.now ∷ second.now ∷ []) }
+    ensures { option_map (λ a. a.now) result ≡ pair_in archives.now.entries first.now second.now }
 {
     let _len = archives.len();
     match archives.get(first) {
@@ -168,8 +167,7 @@ fn find_pair<'a>(
 
 /// Puts a value at a text.
 fn put<T: Drop>(map: &mut BTreeMap<String, T>, text: String, value: T) -> Result<(), AllocError>
-    ensures ok { OnOk result
-        (map_in map.new.entries ≡ fin.insert (map_in map.old.entries) (string_bytes text) value) }
+    ensures ok { OnOk result (Puts map.old.entries map.new.entries text value) }
     ensures err { OnErr result (map_in map.new.entries ≡ map_in map.old.entries) }
     ensures entries { OnOk result
         (map.new.entries ≡ insert_entry string_cmp map.old.entries text value) }
@@ -186,8 +184,8 @@ fn put_pair(
     second: &str,
     archive: Archive,
 ) -> Result<(), AllocError>
-    ensures ok { OnOk result (pairs_in archives.new.entries
-        ≡ fin.insert (pairs_in archives.old.entries) (first.now ∷ second.now ∷ []) archive) }
+    ensures ok { OnOk result
+        (PutsPair archives.old.entries archives.new.entries first.now second.now archive) }
     ensures err { OnErr result (pairs_in archives.new.entries ≡ pairs_in archives.old.entries) }
 {
     let text = String::from_str(alloc, second)?;

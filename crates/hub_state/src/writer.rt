@@ -1,18 +1,16 @@
-ghost use Rattle.std.specs.Prelude.{◌≡◌, ◌⊎◌, ◌+◌, ◌*◌, ◌++◌, ◌∷◌, [], false, length, take, map};
+ghost use Rattle.std.specs.Prelude.{◌≡◌, ◌+◌, ◌*◌, ◌++◌, ◌∷◌, [], false, length, take};
 ghost use Rattle.std.specs.Prelude.{ℕ, List, IfErr, IfSome, OnOk, is_err};
 ghost use Rattle.std.specs.FinMap as fin;
-ghost use Rattle.std.specs.Io.KnownBytes.{Appends};
 ghost use Rattle.std.specs.List.{flat_map};
 ghost use Rattle.std.specs.BTreeMap.{IsOrdered};
 ghost use Rattle.std.specs.String.{string_cmp};
 ghost use Rattle.hex.specs.Hex.{encode_lower};
-ghost use Rattle.hub_tree.specs.Stored.{stored_contents};
-ghost use Rattle.hub_state.specs.Devices.{Passes, StopsWriting, is_write_failed, says, reports, PassesLines};
+ghost use Rattle.hub_state.specs.Devices.{AppendsOver, EndsWriting, StopsWriting, is_write_failed, says, reports, PassesOver, PassesLines};
 ghost use Rattle.hub_state.specs.View.{by_text, pairs_in, pairs_at};
 ghost use Rattle.hub_state.specs.Writing.{dir_line, file_line, hex_field, file_field, pair_lines, archives_lines, replicas_lines};
 ghost use Rattle.hub_state.specs.Writing.{contents_lines, mark_lines};
-ghost use Rattle.hub_state.specs.Writing.{state_header, blob_line, blob_lines, state_files, version_of};
-ghost use Rattle.hub_state.specs.Writing.{joined_lines, state_text};
+ghost use Rattle.hub_state.specs.Writing.{state_header, blob_line, state_files, version_of};
+ghost use Rattle.hub_state.specs.Writing.{joined_lines, state_text, entry_lines, AddsLine, AddsLines, HasBlobsOf};
 
 use crate::blobs::{Head, head_of};
 use crate::digits::encode_into;
@@ -43,10 +41,9 @@ pub fn write_state<W: Write>(
     state: &State,
 ) -> Result<(), StateFault>
     requires { output.old.failed ≡ false }
-    ensures whole { OnOk result (Appends (W.contents output.old.device)
-        (W.contents output.new.device) (state_text state.now)) }
-    ensures faults { IfErr result (λ e. (e ≡ record { line = 0; fault = Fault.OutOfMemory })
-        ⊎ (e ≡ record { line = 0; fault = Fault.WriteFailed })) }
+    ensures whole { OnOk result
+        (AppendsOver output.old output.new W.contents (state_text state.now)) }
+    ensures faults { IfErr result (λ e. EndsWriting e) }
     ensures failed { output.new.failed ≡ reports is_write_failed result }
 {
     match write_parts(alloc, output, state) {
@@ -58,8 +55,8 @@ pub fn write_state<W: Write>(
 /// Writes the text of a state.
 fn write_parts<W: Write>(alloc: Global, output: &mut Watched<W>, state: &State) -> Result<(), Fault>
     requires { output.old.failed ≡ false }
-    ensures whole { OnOk result (Appends (W.contents output.old.device)
-        (W.contents output.new.device) (state_text state.now)) }
+    ensures whole { OnOk result
+        (AppendsOver output.old output.new W.contents (state_text state.now)) }
     ensures faults { IfErr result StopsWriting }
     ensures failed { output.new.failed ≡ says is_write_failed result }
 {
@@ -77,10 +74,9 @@ fn write_sections<W: Write>(
 ) -> Result<(), Fault>
     requires works { output.old.failed ≡ false }
     requires version { head.now.version ≡ version_of (state_files state.now) }
-    requires blobs { map blob_line (fin.entries head.now.blobs)
-        ≡ blob_lines head.now.version (state_files state.now) }
-    ensures whole { OnOk result (Appends (W.contents output.old.device)
-        (W.contents output.new.device) (text.old.items ++ state_text state.now)) }
+    requires blobs { HasBlobsOf head.now (state_files state.now) }
+    ensures whole { OnOk result
+        (AppendsOver output.old output.new W.contents (text.old.items ++ state_text state.now)) }
     ensures faults { IfErr result StopsWriting }
     ensures failed { output.new.failed ≡ says is_write_failed result }
 {
@@ -100,8 +96,8 @@ fn write_replicas<W: Write>(
     replicas: &BTreeMap<String, Tree>,
 ) -> Result<(), Fault>
     requires { output.old.failed ≡ false }
-    ensures ok { OnOk result (PassesLines (W.contents output.old.device)
-        (W.contents output.new.device) text.old.items text.new.items
+    ensures ok { OnOk result
+        (PassesLines output.old output.new W.contents text.old.items text.new.items
         (replicas_lines version (by_text replicas.now.entries))) }
     ensures faults { IfErr result StopsWriting }
     ensures failed { output.new.failed ≡ says is_write_failed result }
@@ -120,8 +116,8 @@ fn write_archives<W: Write>(
     archives: &BTreeMap<String, BTreeMap<String, Archive>>,
 ) -> Result<(), Fault>
     requires { output.old.failed ≡ false }
-    ensures ok { OnOk result (PassesLines (W.contents output.old.device)
-        (W.contents output.new.device) text.old.items text.new.items
+    ensures ok { OnOk result
+        (PassesLines output.old output.new W.contents text.old.items text.new.items
         (archives_lines (fin.entries (pairs_in archives.now.entries)))) }
     ensures faults { IfErr result StopsWriting }
     ensures failed { output.new.failed ≡ says is_write_failed result }
@@ -140,8 +136,8 @@ fn write_pairs<W: Write>(
     others: &BTreeMap<String, Archive>,
 ) -> Result<(), Fault>
     requires { output.old.failed ≡ false }
-    ensures ok { OnOk result (PassesLines (W.contents output.old.device)
-        (W.contents output.new.device) text.old.items text.new.items
+    ensures ok { OnOk result
+        (PassesLines output.old output.new W.contents text.old.items text.new.items
         (archives_lines (pairs_at first.now others.now.entries))) }
     ensures faults { IfErr result StopsWriting }
     ensures failed { output.new.failed ≡ says is_write_failed result }
@@ -162,8 +158,8 @@ fn write_tree<W: Write>(
     tree: &Tree,
 ) -> Result<(), Fault>
     requires { output.old.failed ≡ false }
-    ensures ok { OnOk result (PassesLines (W.contents output.old.device)
-        (W.contents output.new.device) text.old.items text.new.items
+    ensures ok { OnOk result
+        (PassesLines output.old output.new W.contents text.old.items text.new.items
         (flat_map (contents_lines version) (fin.entries tree.now))) }
     ensures faults { IfErr result StopsWriting }
     ensures failed { output.new.failed ≡ says is_write_failed result }
@@ -184,9 +180,9 @@ fn write_entry<W: Write>(
     stored: Stored<'_>,
 ) -> Result<(), Fault>
     requires { output.old.failed ≡ false }
-    ensures ok { OnOk result (PassesLines (W.contents output.old.device)
-        (W.contents output.new.device) text.old.items text.new.items
-        (contents_lines version (path.now, stored_contents stored.entry))) }
+    ensures ok { OnOk result
+        (PassesLines output.old output.new W.contents text.old.items text.new.items
+        (entry_lines version path.now stored.entry)) }
     ensures faults { IfErr result StopsWriting }
     ensures failed { output.new.failed ≡ says is_write_failed result }
 {
@@ -201,8 +197,8 @@ fn write_lines<W: Write, K, V: HasLines<K>>(
     entries: Iter<'_, K, V>,
 ) -> Result<(), Fault>
     requires { output.old.failed ≡ false }
-    ensures ok { OnOk result (Passes (W.contents output.old.device)
-        (W.contents output.new.device) text.old.items text.new.items
+    ensures ok { OnOk result
+        (PassesOver output.old output.new W.contents text.old.items text.new.items
         (joined_lines (flat_map V.lines entries.entry))) }
     ensures faults { IfErr result StopsWriting }
     ensures failed { output.new.failed ≡ says is_write_failed result }
@@ -253,8 +249,8 @@ impl HasLines<RelPath> for Mark {
 /// Passes the text on if there is a block of it.
 fn pass_block<W: Write>(output: &mut Watched<W>, text: &mut Vec<u8>) -> Result<(), Fault>
     requires { output.old.failed ≡ false }
-    ensures ok { OnOk result (Passes (W.contents output.old.device)
-        (W.contents output.new.device) text.old.items text.new.items []) }
+    ensures ok { OnOk result
+        (PassesOver output.old output.new W.contents text.old.items text.new.items []) }
     ensures faults { IfErr result (λ e. e ≡ Fault.WriteFailed) }
     ensures failed { output.new.failed ≡ is_err result }
 {
@@ -267,8 +263,7 @@ fn pass_block<W: Write>(output: &mut Watched<W>, text: &mut Vec<u8>) -> Result<(
 /// Passes all of the text on, and empties it.
 fn pass_on<W: Write>(output: &mut Watched<W>, text: &mut Vec<u8>) -> Result<(), Fault>
     requires { output.old.failed ≡ false }
-    ensures ok { OnOk result (Appends (W.contents output.old.device)
-        (W.contents output.new.device) text.old.items) }
+    ensures ok { OnOk result (AppendsOver output.old output.new W.contents text.old.items) }
     ensures empty { OnOk result (text.new.items ≡ []) }
     ensures faults { IfErr result (λ e. e ≡ Fault.WriteFailed) }
     ensures failed { output.new.failed ≡ is_err result }
@@ -312,8 +307,8 @@ fn push_root(text: &mut Vec<u8>, word: &str, root: &str) -> Result<(), AllocErro
 
 /// Appends the lines of the two roots of a pair.
 fn push_pair(text: &mut Vec<u8>, first: &str, second: &str) -> Result<(), AllocError>
-    ensures { OnOk result (text.new.items
-        ≡ text.old.items ++ joined_lines (pair_lines (first.now ∷ second.now ∷ []))) }
+    ensures { OnOk result
+        (AddsLines text.old.items text.new.items (pair_lines (first.now ∷ second.now ∷ []))) }
 {
     push_root(text, "archive ", first)?;
     push_root(text, "with ", second)
@@ -326,8 +321,8 @@ fn push_entry(
     path: &Place<'_>,
     stored: Stored<'_>,
 ) -> Result<(), AllocError>
-    ensures { OnOk result (text.new.items ≡ text.old.items
-        ++ joined_lines (contents_lines version (path.now, stored_contents stored.entry))) }
+    ensures { OnOk result
+        (AddsLines text.old.items text.new.items (entry_lines version path.now stored.entry)) }
 {
     match stored {
         Stored::File(blob) => push_file(text, version, blob, path),
@@ -337,8 +332,7 @@ fn push_entry(
 
 /// Appends the line of a directory of a replica.
 fn push_dir(text: &mut Vec<u8>, path: &Place<'_>) -> Result<(), AllocError>
-    ensures { OnOk result (text.new.items
-        ≡ text.old.items ++ dir_line path.now ++ 10 ∷ []) }
+    ensures { OnOk result (AddsLine text.old.items text.new.items (dir_line path.now)) }
 {
     push(text, "dir ")?;
     path.push_to(text)?;
@@ -347,8 +341,7 @@ fn push_dir(text: &mut Vec<u8>, path: &Place<'_>) -> Result<(), AllocError>
 
 /// Appends the line of a directory of an archive.
 fn push_old_dir(text: &mut Vec<u8>, path: &RelPath) -> Result<(), AllocError>
-    ensures { OnOk result (text.new.items
-        ≡ text.old.items ++ dir_line path.now ++ 10 ∷ []) }
+    ensures { OnOk result (AddsLine text.old.items text.new.items (dir_line path.now)) }
 {
     push(text, "dir ")?;
     push(text, path.as_str())?;
@@ -411,8 +404,9 @@ fn push_file(
     blob: &Blob,
     path: &Place<'_>,
 ) -> Result<(), AllocError>
-    ensures { OnOk result (text.new.items
-        ≡ text.old.items ++ file_line (file_field version blob.now) path.now ++ 10 ∷ []) }
+    ensures { OnOk result
+        (AddsLine text.old.items text.new.items
+        (file_line (file_field version blob.now) path.now)) }
 {
     push(text, "file ")?;
     push_field(text, version, blob)?;
@@ -423,8 +417,8 @@ fn push_file(
 
 /// Appends the line of a file of an archive.
 fn push_old_file(text: &mut Vec<u8>, digest: &[u8; 32], path: &RelPath) -> Result<(), AllocError>
-    ensures { OnOk result (text.new.items
-        ≡ text.old.items ++ file_line (encode_lower digest.now) path.now ++ 10 ∷ []) }
+    ensures { OnOk result
+        (AddsLine text.old.items text.new.items (file_line (encode_lower digest.now) path.now)) }
 {
     push(text, "file ")?;
     push_digits(text, digest.as_slice())?;

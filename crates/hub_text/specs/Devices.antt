@@ -1,5 +1,6 @@
 -- Calls of readers and writers that failed, and reads that met the end.
-use Rattle.std.specs.Prelude.{ℕ, Bool, true, false, not, ◌&&◌, ◌==◌, Result, Ok, Err}
+use Rattle.std.specs.Prelude.{ℕ, Bool, true, false, not, ◌&&◌, ◌==◌, List, Option, Result, Ok, Err, take}
+use Rattle.std.specs.Io.KnownBytes.{Appends}
 
 -- A write of a piece of that length that returned an error, or took nothing of a piece that isn't
 -- empty.
@@ -11,3 +12,7 @@ is_failed_write len (Err e) = true
 abbrev pub is_end : {E : Type 0} → ℕ → Result ℕ E → Bool
 is_end len (Ok n) = (n == 0) && not (len == 0)
 is_end len (Err e) = false
+
+-- The known bytes grew by a prefix of these.
+abbrev pub AppendsPrefix : Option (List ℕ) → Option (List ℕ) → List ℕ → Type 0
+AppendsPrefix old new bs = (n : ℕ) × Appends old new (take n bs)

@@ -1,7 +1,7 @@
-ghost use Rattle.std.specs.Prelude.{◌≡◌, ◌||◌, ◌+◌, ℕ, length, take, false, OnOk, is_err};
+ghost use Rattle.std.specs.Prelude.{◌≡◌, ◌||◌, ◌+◌, length, false, OnOk, is_err};
 ghost use Rattle.std.specs.Io.{ReadsAtMost, WritesAtMost};
 ghost use Rattle.std.specs.Io.KnownBytes.{Appends, Keeps, ReadConsumes, WriteAppends};
-ghost use Rattle.hub_text.specs.Devices.{is_failed_write, is_end};
+ghost use Rattle.hub_text.specs.Devices.{is_failed_write, is_end, AppendsPrefix};
 
 use std::io;
 use std::io::{ErrorKind, Read, Write};
@@ -125,8 +125,8 @@ impl<W: Write> Write for Watched<W> {
     fn write_all(&mut self, bytes: &[u8]) -> io::Result<()>
         ensures bytes { OnOk result (Appends (W.contents self.old.device)
             (W.contents self.new.device) bytes.now) }
-        ensures prefix { (n : ℕ) × Appends (W.contents self.old.device)
-            (W.contents self.new.device) (take n bytes.now) }
+        ensures prefix { AppendsPrefix (W.contents self.old.device)
+            (W.contents self.new.device) bytes.now }
         ensures failed { self.new.failed ≡ (self.old.failed || is_err result) }
     {
         let mut rest = bytes;

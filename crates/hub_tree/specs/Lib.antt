@@ -6,5 +6,6 @@ pub mod Sets
 pub mod Shared
 pub mod Stored
 pub mod Tree
+pub mod forms
 pub mod laws
 pub mod examples

@@ -1,10 +1,13 @@
 -- The entries of a tree that is kept as names and what stands under each.
 use Rattle.std.specs.Prelude.{◌≡◌, ℕ, ◌+◌, Bool, false, not, ◌&&◌, is_some, List, [], ◌∷◌, ◌++◌, map, length, ◌==◌, Option, Some, None, if◌then◌else◌, Result, ⊤, IfErr, OnOk, OnErr}
 use Rattle.std.specs.Arc.{arc_value}
+use Rattle.std.specs.BTreeMap.{BTreeMap}
+use Rattle.std.specs.declared.sync.Arc.{Arc}
 use Rattle.std.specs.FinMap as fin
 use Rattle.std.specs.FinMap.Entries.{where_key}
 use Rattle.std.specs.Ordering.{eq_by_cmp}
 use Rattle.hub_path.specs.Path.{Name, Path, path_cmp, name_cmp}
+use Rattle.hub_tree.specs.Shared.{shared_entries}
 use Rattle.hub_tree.specs.Tree.{Replica, is_directory, set_fault, with_contents, IsRefusal}
 use Rattle.hub_tree.specs.declared.fault.SetFault.{SetFault}
 use Rattle.hub_tree.specs.declared.fault.SetFault.TheVariants.{NoParent}
@@ -116,3 +119,7 @@ size_of x = fin.len (replica_of (kids_of x)) + 1
 -- Both nodes are the same, with all that they hold.
 abbrev pub AreSame : Node → Node → Type 0
 AreSame x y = (contents_of x ≡ contents_of y) × (replica_of (kids_of x) ≡ replica_of (kids_of y))
+
+-- The replica that a shared top holds.
+abbrev pub top_replica : {Z : Type 0} → Option (Arc (BTreeMap Name Node) Z) → Replica
+top_replica top = replica_of (shared_entries top)

@@ -1,9 +1,10 @@
 -- Several Sets, one after the other.
-use Rattle.std.specs.Prelude.{◌≡◌, ◌<◌, ◌&&◌, length, Bool, true, false, IsTrue, List, [], ◌∷◌, map, reverse, Option, Some, None, if◌then◌else◌, is_some}
+use Rattle.std.specs.Prelude.{◌≡◌, ◌<◌, ◌&&◌, length, Bool, true, false, IsTrue, List, [], ◌∷◌, ◌++◌, map, reverse, Option, Some, None, if◌then◌else◌, is_some}
 use Rattle.std.specs.List.{filter}
+use Rattle.std.specs.Option.{option_and_then}
 use Rattle.hub_path.specs.Path.{Path, parent, path_eq}
 use Rattle.hub_tree.specs.Below.{is_below, under}
-use Rattle.hub_tree.specs.Tree.{Replica, IsTree, contents_at, is_absent, is_child, is_directory, set_fault, with_contents}
+use Rattle.hub_tree.specs.Tree.{Replica, IsTree, children, contents_at, is_absent, is_child, is_directory, set_fault, with_contents}
 use Rattle.hub_tree.specs.declared.contents.Contents.{Contents}
 use Rattle.hub_tree.specs.declared.contents.Contents.TheVariants.{Absent, Directory}
 
@@ -69,3 +70,22 @@ ParentsPass s p f =
 abbrev pub SameChildren : Replica → Replica → Path → (Path → Bool) → Type 0
 SameChildren m k d f =
     (q : Path) → IsTrue (is_child d q) → f q ≡ true → contents_at m q ≡ contents_at k q
+
+-- Both replicas list the same children of a directory that pass a test.
+abbrev pub ListAlike : Replica → Replica → Path → (Path → Bool) → Type 0
+ListAlike m k d f = filter f (children m d) ≡ filter f (children k d)
+
+-- The replica after some Sets, and then these others.
+abbrev pub sets_in_turn : Replica → List (Path × Contents) → List (Path × Contents) → Option Replica
+sets_in_turn m cs ds = option_and_then (λ k. sets k ds) (sets m cs)
+
+-- What lies below a path can be removed, and then these contents be set at the path, unless both
+-- the path and they are absent.
+abbrev pub CanReplace : Replica → Path → Contents → Type 0
+CanReplace m p c =
+    (is_absent (contents_at m p) && is_absent c) ≡ false
+    → Leave m (removals m p ++ (p, c) ∷ []) (replaced m p c)
+
+-- If a path is a directory that holds nothing, it holds.
+abbrev pub IfEmptyDirectory : Replica → Path → Type 0 → Type 0
+IfEmptyDirectory m p C = contents_at m p ≡ Directory → under m p ≡ [] → C

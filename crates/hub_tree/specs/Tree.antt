@@ -142,3 +142,19 @@ with_new_contents m p c = if is_some (fin.get m p) then m else with_contents m p
 abbrev pub IsRefusal : Option SetFault → SetFault → Type 0
 IsRefusal None e = e ≡ OutOfMemory
 IsRefusal (Some f) e = e ≡ f
+
+-- Both replicas have the same contents at each path.
+abbrev pub SameContents : Replica → Replica → Type 0
+SameContents m k = (p : Path) → contents_at m p ≡ contents_at k p
+
+-- Both archives have the same mark at each path.
+abbrev pub SameMarks : Archive → Archive → Type 0
+SameMarks a b = (p : Path) → old_mark_at a p ≡ old_mark_at b p
+
+-- The marks of an archive, with this one at p.
+abbrev pub marks_with : Archive → Path → Mark → Path → Mark
+marks_with a p m q = if path_eq q p then m else old_mark_at a q
+
+-- q is one name below d, and has contents.
+abbrev pub is_present_child : Replica → Path → Path → Bool
+is_present_child m d q = is_child d q && not (is_absent (contents_at m q))

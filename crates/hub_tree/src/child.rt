@@ -1,8 +1,9 @@
 ghost use Rattle.std.specs.Prelude.{◌≡◌, [], ◌∷◌, true, false, None, is_some, IfOk, IfErr, IsTrue, OnOk, OnErr};
 ghost use Rattle.std.specs.BTreeMap.{get};
 ghost use Rattle.hub_path.specs.Path.{name_cmp};
-ghost use Rattle.hub_tree.specs.Nodes.{replica_of, occupied, contents_or_absent, is_left, put_fault, with_put, SetsOrRefuses};
-ghost use Rattle.hub_tree.specs.Tree.{set_fault, is_directory, IsRefusal};
+ghost use Rattle.hub_tree.specs.Nodes.{replica_of, occupied, contents_or_absent};
+ghost use Rattle.hub_tree.specs.Tree.{set_fault, is_directory};
+ghost use Rattle.hub_tree.specs.forms.Puts.{CanPut, HoldSame, Puts, RefusesPut, SetsChild, is_left_among};
 
 use crate::blob::Blob;
 use crate::contents::Contents;
@@ -51,14 +52,12 @@ pub fn put_child(
     only_new: bool,
 ) -> Result<bool, SetFault>
     ensures left { IfOk result
-        (λ b. b ≡ is_left only_new (replica_of children.old.entries) (name.now ∷ [])) }
-    ensures allowed { OnOk result (put_fault only_new
-        (replica_of children.old.entries) (name.now ∷ []) contents ≡ None) }
-    ensures ok { OnOk result (replica_of children.new.entries
-        ≡ with_put only_new (replica_of children.old.entries) (name.now ∷ []) contents) }
-    ensures fault { IfErr result (IsRefusal (put_fault only_new
-        (replica_of children.old.entries) (name.now ∷ []) contents)) }
-    ensures err { OnErr result (replica_of children.new.entries ≡ replica_of children.old.entries) }
+        (λ b. b ≡ is_left_among only_new children.old (name.now ∷ [])) }
+    ensures allowed { OnOk result (CanPut only_new children.old (name.now ∷ []) contents) }
+    ensures ok { OnOk result
+        (Puts only_new children.old children.new (name.now ∷ []) contents) }
+    ensures fault { IfErr result (RefusesPut only_new children.old (name.now ∷ []) contents) }
+    ensures err { OnErr result (HoldSame children.old children.new) }
 {
     if is_past(children, name) {
         add_child(alloc, children, name, contents)?;
@@ -70,8 +69,7 @@ pub fn put_child(
 /// Returns whether a name comes after those of all children, so that no child has it.
 fn is_past(children: &BTreeMap<Name, Node>, name: &Name) -> bool
     ensures absent { IsTrue result → is_some (get name_cmp children.now name.now) ≡ false }
-    ensures left { IsTrue result
-        → is_left true (replica_of children.now.entries) (name.now ∷ []) ≡ false }
+    ensures left { IsTrue result → is_left_among true children.now (name.now ∷ []) ≡ false }
 {
     match children.last_key_value() {
         Some((last, _)) => *last < *name,
@@ -88,14 +86,12 @@ fn put_among(
     only_new: bool,
 ) -> Result<bool, SetFault>
     ensures left { IfOk result
-        (λ b. b ≡ is_left only_new (replica_of children.old.entries) (name.now ∷ [])) }
-    ensures allowed { OnOk result (put_fault only_new
-        (replica_of children.old.entries) (name.now ∷ []) contents ≡ None) }
-    ensures ok { OnOk result (replica_of children.new.entries
-        ≡ with_put only_new (replica_of children.old.entries) (name.now ∷ []) contents) }
-    ensures fault { IfErr result (IsRefusal (put_fault only_new
-        (replica_of children.old.entries) (name.now ∷ []) contents)) }
-    ensures err { OnErr result (replica_of children.new.entries ≡ replica_of children.old.entries) }
+        (λ b. b ≡ is_left_among only_new children.old (name.now ∷ [])) }
+    ensures allowed { OnOk result (CanPut only_new children.old (name.now ∷ []) contents) }
+    ensures ok { OnOk result
+        (Puts only_new children.old children.new (name.now ∷ []) contents) }
+    ensures fault { IfErr result (RefusesPut only_new children.old (name.now ∷ []) contents) }
+    ensures err { OnErr result (HoldSame children.old children.new) }
 {
     if !only_new {
         set_child(alloc, children, name, contents)?;
@@ -111,7 +107,7 @@ fn put_among(
 /// Returns whether there are contents at a name.
 fn has_child(children: &BTreeMap<Name, Node>, name: &Name) -> bool
     ensures found { result ≡ is_some (get name_cmp children.now name.now) }
-    ensures left { result ≡ is_left true (replica_of children.now.entries) (name.now ∷ []) }
+    ensures left { result ≡ is_left_among true children.now (name.now ∷ []) }
 {
     children.contains_key(name)
 }
@@ -124,8 +120,7 @@ fn add_child(
     contents: Contents,
 ) -> Result<(), SetFault>
     requires { is_some (get name_cmp children.old name.now) ≡ false }
-    ensures { SetsOrRefuses contents (name.now ∷ [])
-        (replica_of children.old.entries) (replica_of children.new.entries) result }
+    ensures { SetsChild contents name.now children.old children.new result }
 {
     match contents {
         Contents::File(blob) => insert_file(children, name, blob),
@@ -141,8 +136,7 @@ fn set_child(
     name: &Name,
     contents: Contents,
 ) -> Result<(), SetFault>
-    ensures { SetsOrRefuses contents (name.now ∷ [])
-        (replica_of children.old.entries) (replica_of children.new.entries) result }
+    ensures { SetsChild contents name.now children.old children.new result }
 {
     match contents {
         Contents::File(blob) => set_file(children, name, blob),
@@ -153,8 +147,7 @@ fn set_child(
 
 /// Puts a file at a name.
 fn set_file(children: &mut BTreeMap<Name, Node>, name: &Name, blob: Blob) -> Result<(), SetFault>
-    ensures { SetsOrRefuses (Contents.File blob) (name.now ∷ [])
-        (replica_of children.old.entries) (replica_of children.new.entries) result }
+    ensures { SetsChild (Contents.File blob) name.now children.old children.new result }
 {
     if is_occupied(children, name) {
         return Err(SetFault::NotEmpty);
@@ -165,8 +158,7 @@ fn set_file(children: &mut BTreeMap<Name, Node>, name: &Name, blob: Blob) -> Res
 /// Puts a file at a name where there is no directory that holds something.
 fn insert_file(children: &mut BTreeMap<Name, Node>, name: &Name, blob: Blob) -> Result<(), SetFault>
     requires { occupied (get name_cmp children.old name.now) ≡ false }
-    ensures { SetsOrRefuses (Contents.File blob) (name.now ∷ [])
-        (replica_of children.old.entries) (replica_of children.new.entries) result }
+    ensures { SetsChild (Contents.File blob) name.now children.old children.new result }
 {
     let _old = children.insert(name.copy()?, Node::File(blob))?;
     Ok(())
@@ -178,8 +170,7 @@ fn set_directory(
     children: &mut BTreeMap<Name, Node>,
     name: &Name,
 ) -> Result<(), SetFault>
-    ensures { SetsOrRefuses Contents.Directory (name.now ∷ [])
-        (replica_of children.old.entries) (replica_of children.new.entries) result }
+    ensures { SetsChild Contents.Directory name.now children.old children.new result }
 {
     if holds_directory(children, name) {
         return Ok(());
@@ -194,8 +185,7 @@ fn insert_directory(
     name: &Name,
 ) -> Result<(), SetFault>
     requires { is_directory (contents_or_absent (get name_cmp children.old name.now)) ≡ false }
-    ensures { SetsOrRefuses Contents.Directory (name.now ∷ [])
-        (replica_of children.old.entries) (replica_of children.new.entries) result }
+    ensures { SetsChild Contents.Directory name.now children.old children.new result }
 {
     let inner = Arc::new(alloc, BTreeMap::new(alloc))?;
     let _old = children.insert(name.copy()?, Node::Directory(inner))?;
@@ -204,8 +194,7 @@ fn insert_directory(
 
 /// Removes the node at a name.
 fn remove(children: &mut BTreeMap<Name, Node>, name: &Name) -> Result<(), SetFault>
-    ensures { SetsOrRefuses Contents.Absent (name.now ∷ [])
-        (replica_of children.old.entries) (replica_of children.new.entries) result }
+    ensures { SetsChild Contents.Absent name.now children.old children.new result }
 {
     if is_occupied(children, name) {
         return Err(SetFault::NotEmpty);

@@ -2,7 +2,7 @@ ghost use Rattle.std.specs.Prelude.{◌≡◌, ◌++◌, ◌∷◌, [], T, IfOk,
 ghost use Rattle.std.specs.FinMap as fin;
 ghost use Rattle.std.specs.FinMap.Entries.{is_sorted};
 ghost use Rattle.hub_path.specs.Path.{name_cmp};
-ghost use Rattle.hub_tree.specs.Levels.{all_ascend, entries_in, left_in, level_entries};
+ghost use Rattle.hub_tree.specs.Levels.{all_ascend, left_in, IsEntered};
 ghost use Rattle.hub_tree.specs.Nodes.{contents_of, replica_of};
 ghost use Rattle.hub_tree.specs.Stored.{TakesEntry, stored_contents};
 
@@ -128,9 +128,8 @@ fn enter<'a>(
     requires level { T (is_sorted name_cmp level.children) }
     ensures path { IfOk result (λ e. e.0 ≡ level.entry.path ++ name.now ∷ []) }
     ensures contents { IfOk result (λ e. stored_contents e.1 ≡ contents_of node.now) }
-    ensures left { OnOk result (left_in levels.new.items
-        ≡ entries_in (level.entry.path ++ name.now ∷ []) node.now
-        ++ (level_entries level.entry ++ left_in levels.old.items)) }
+    ensures left { OnOk result
+        (IsEntered level.entry name.now node.now levels.old.items levels.new.items) }
     ensures ascend { OnOk result (T (all_ascend levels.new.items)) }
 {
     let path = level.path.place(name)?;

@@ -1,12 +1,11 @@
 //! Laws of replicas and archives: each is the contract of a function that does nothing.
-ghost use Rattle.std.specs.Prelude.{◌≡◌, ◌<◌, ◌↔◌, ◌&&◌, ◌∷◌, ◌++◌, not, Bool, IsTrue, Some, None, false, List, [], length, if◌then◌else◌};
-ghost use Rattle.std.specs.List.{filter, list_any};
-ghost use Rattle.std.specs.Option.{option_and_then};
+ghost use Rattle.std.specs.Prelude.{◌≡◌, ◌<◌, ◌↔◌, ◌++◌, Bool, IsTrue, Some, None, false, List, [], length, if◌then◌else◌};
+ghost use Rattle.std.specs.List.{list_any};
 ghost use Rattle.std.specs.FinMap as fin;
 ghost use Rattle.hub_path.specs.Path.{Path, path_eq};
-ghost use Rattle.hub_tree.specs.Below.{is_below, under};
-ghost use Rattle.hub_tree.specs.Sets.{IfInDirectory, IfNoDirectory, Leave, ParentsPass, SameChildren, copies, emptied, folder_copies, grafted, removals, replaced, sets, with_folder};
-ghost use Rattle.hub_tree.specs.Tree.{Replica, Archive, IsTree, IsArchive, contents_at, old_mark_at, is_absent, is_child, children, set_fault, with_contents, with_mark};
+ghost use Rattle.hub_tree.specs.Below.{is_below, under, AllAbsentBelow};
+ghost use Rattle.hub_tree.specs.Sets.{IfInDirectory, IfNoDirectory, Leave, ParentsPass, SameChildren, copies, emptied, folder_copies, grafted, removals, sets, with_folder, CanReplace, IfEmptyDirectory, ListAlike, sets_in_turn};
+ghost use Rattle.hub_tree.specs.Tree.{Replica, Archive, IsTree, IsArchive, contents_at, old_mark_at, is_absent, children, set_fault, with_contents, with_mark, SameContents, SameMarks, marks_with, is_present_child};
 ghost use Rattle.hub_tree.specs.declared.contents.Contents.{Contents};
 ghost use Rattle.hub_tree.specs.declared.contents.Mark.{Mark};
 ghost use Rattle.hub_tree.specs.declared.contents.Contents.TheVariants as contents;
@@ -14,13 +13,12 @@ ghost use Rattle.hub_tree.specs.declared.contents.Contents.TheVariants as conten
 /// Replicas with the same contents at each path are equal.
 pub fn trees_are_their_contents()
     ensures { (m k : Replica) → IsTree m → IsTree k
-        → ((p : Path) → contents_at m p ≡ contents_at k p) → m ≡ k }
+        → SameContents m k → m ≡ k }
 {}
 
 /// Archives with the same mark at each path are equal.
 pub fn archives_are_their_marks()
-    ensures { (a b : Archive) → IsArchive a → IsArchive b
-        → ((p : Path) → old_mark_at a p ≡ old_mark_at b p) → a ≡ b }
+    ensures { (a b : Archive) → IsArchive a → IsArchive b → SameMarks a b → a ≡ b }
 {}
 
 /// If a path has contents, then each path above it is a directory.
@@ -42,7 +40,7 @@ pub fn a_set_keeps_archives()
     ensures archive { (a : Archive) (p : Path) (m : Mark) → 0 < length p → IsArchive a
         → IsArchive (with_mark a p m) }
     ensures marks { (a : Archive) (p q : Path) (m : Mark)
-        → old_mark_at (with_mark a p m) q ≡ (if path_eq q p then m else old_mark_at a q) }
+        → old_mark_at (with_mark a p m) q ≡ marks_with a p m q }
 {}
 
 /// What lies below a path can be removed, in descending order. All else stays.
@@ -56,28 +54,26 @@ pub fn sets_down()
 /// else stays.
 pub fn sets_up()
     ensures { (m s : Replica) (p : Path) (f : Path → Bool) → IsTree m → IsTree s
-        → contents_at m p ≡ contents.Directory → under m p ≡ [] → ParentsPass s p f
-        → Leave m (copies s p f) (grafted m s p f) }
+        → IfEmptyDirectory m p (ParentsPass s p f
+        → Leave m (copies s p f) (grafted m s p f)) }
 {}
 
 /// Nothing is under a path exactly when each path below it is absent.
 pub fn nothing_is_under_what_holds_nothing()
-    ensures { (m : Replica) (p : Path) → (under m p ≡ [])
-        ↔ ((q : Path) → IsTrue (is_below p q) → contents_at m q ≡ contents.Absent) }
+    ensures { (m : Replica) (p : Path) → (under m p ≡ []) ↔ AllAbsentBelow m p }
 {}
 
 /// A list of Sets continues from the replica that the Sets before it leave.
 pub fn sets_go_on()
     ensures { (m : Replica) (cs ds : List (Path × Contents))
-        → sets m (cs ++ ds) ≡ option_and_then (λ k. sets k ds) (sets m cs) }
+        → sets m (cs ++ ds) ≡ sets_in_turn m cs ds }
 {}
 
 /// What lies below a path can be removed, and then the path be set. The parent must be a directory, and the path or the
 /// new contents not absent.
 pub fn an_item_goes()
     ensures { (m : Replica) (p : Path) (c : Contents) → IsTree m
-        → IfInDirectory m p ((is_absent (contents_at m p) && is_absent c) ≡ false
-        → Leave m (removals m p ++ (p, c) ∷ []) (replaced m p c)) }
+        → IfInDirectory m p (CanReplace m p c) }
 {}
 
 /// A path that is not a directory can become one, and then receive all that passes a test below it in another replica.
@@ -100,9 +96,9 @@ pub fn sets_keep_the_rest()
 /// A directory lists exactly the paths one name below it that have contents. So equal contents give equal listings.
 pub fn listings_are_by_contents()
     ensures members { (m : Replica) (d q : Path) → list_any (path_eq q) (children m d)
-        ≡ (is_child d q && not (is_absent (contents_at m q))) }
+        ≡ is_present_child m d q }
     ensures alike { (m k : Replica) (d : Path) (f : Path → Bool)
-        → SameChildren m k d f → filter f (children m d) ≡ filter f (children k d) }
+        → SameChildren m k d f → ListAlike m k d f }
 {}
 
 /// All that a replica has is under its top, in the order of paths.

@@ -1,11 +1,12 @@
-ghost use Rattle.std.specs.Prelude.{◌≡◌, ◌<◌, min, ◌++◌, [], ◌∷◌, drop, map, length, None, IfOk, IfErr, OnOk, OnErr};
+ghost use Rattle.std.specs.Prelude.{◌≡◌, ◌<◌, min, ◌++◌, drop, length, None, IfOk, IfErr, OnOk, OnErr};
 ghost use Rattle.std.specs.Arc.{arc_value};
-ghost use Rattle.std.specs.Option.{option_and_then, option_copied};
+ghost use Rattle.std.specs.Option.{option_copied};
 ghost use Rattle.std.specs.FinMap as fin;
 ghost use Rattle.std.specs.BTreeMap.{insert_entry, keys, IsOrdered};
-ghost use Rattle.hub_path.specs.Path.{Path, name_cmp};
-ghost use Rattle.hub_tree.specs.Nodes.{replica_of, children_entries, entries_under, size_of, node_get, kids_of, contents_of, is_left, put_fault, put_fault_below, with_put};
+ghost use Rattle.hub_path.specs.Path.{name_cmp};
+ghost use Rattle.hub_tree.specs.Nodes.{replica_of, children_entries, entries_under, size_of, kids_of, contents_of, is_left, put_fault_below};
 ghost use Rattle.hub_tree.specs.Tree.{set_fault, IsRefusal};
+ghost use Rattle.hub_tree.specs.forms.Puts.{CanPut, HoldSame, IsNodeAt, Puts, PutsBelow, RefusesPut, is_left_among, paths_in, paths_of};
 
 use crate::blob::Blob;
 use crate::child::{fault_of_child, put_child};
@@ -33,8 +34,7 @@ pub fn node_at<'a>(
     depth: usize,
 ) -> Option<&'a Node>
     requires { depth < length path.now }
-    ensures { (q : Path) → fin.get (replica_of children.now.entries) (drop depth path.now ++ q)
-        ≡ option_and_then (node_get q) (option_copied result) }
+    ensures { IsNodeAt children.now (drop depth path.now) (option_copied result) }
 {
     let len = path.len();
     let node = children.get(path.name(depth))?;
@@ -66,9 +66,8 @@ pub fn push_paths(
     children: &BTreeMap<Name, Node>,
     paths: &mut Vec<RelPath>,
 ) -> Result<(), AllocError>
-    ensures { OnOk result (paths.new.items
-        ≡ paths.old.items
-        ++ map (λ p. prefix.now ++ p) (fin.keys (replica_of children.now.entries))) }
+    ensures { OnOk result
+        (paths.new.items ≡ paths.old.items ++ paths_in prefix.now children.now) }
 {
     for (name, node) in children.iter() {
         let path = prefix.child(name.copy()?)?;
@@ -80,8 +79,7 @@ pub fn push_paths(
 /// Pushes the path of a node, and then the paths of all that it holds.
 #[cycle(paths)]
 fn push_below(path: RelPath, node: &Node, paths: &mut Vec<RelPath>) -> Result<(), AllocError>
-    ensures { OnOk result (paths.new.items
-        ≡ paths.old.items ++ map (λ p. path ++ p) ([] ∷ fin.keys (replica_of (kids_of node.now)))) }
+    ensures { OnOk result (paths.new.items ≡ paths.old.items ++ paths_of path node.now) }
 {
     match node {
         Node::File(_) => {
@@ -189,16 +187,15 @@ pub fn put_shared(
     only_new: bool,
 ) -> Result<bool, SetFault>
     requires { depth < length path.now }
-    ensures left { IfOk result (λ b. b
-        ≡ is_left only_new (replica_of (arc_value shared.old).entries) (drop depth path.now)) }
-    ensures allowed { OnOk result (put_fault only_new
-        (replica_of (arc_value shared.old).entries) (drop depth path.now) contents ≡ None) }
-    ensures ok { OnOk result (replica_of (arc_value shared.new).entries ≡ with_put only_new
-        (replica_of (arc_value shared.old).entries) (drop depth path.now) contents) }
-    ensures fault { IfErr result (IsRefusal (put_fault only_new
-        (replica_of (arc_value shared.old).entries) (drop depth path.now) contents)) }
-    ensures err { OnErr result (replica_of (arc_value shared.new).entries
-        ≡ replica_of (arc_value shared.old).entries) }
+    ensures left { IfOk result
+        (λ b. b ≡ is_left_among only_new (arc_value shared.old) (drop depth path.now)) }
+    ensures allowed { OnOk result
+        (CanPut only_new (arc_value shared.old) (drop depth path.now) contents) }
+    ensures ok { OnOk result (Puts only_new (arc_value shared.old) (arc_value shared.new)
+        (drop depth path.now) contents) }
+    ensures fault { IfErr result
+        (RefusesPut only_new (arc_value shared.old) (drop depth path.now) contents) }
+    ensures err { OnErr result (HoldSame (arc_value shared.old) (arc_value shared.new)) }
 {
     if let Some(children) = Arc::get_mut(shared) {
         return put_at(alloc, children, path, depth, contents, only_new);
@@ -228,14 +225,14 @@ pub fn put_at(
 ) -> Result<bool, SetFault>
     requires { depth < length path.now }
     ensures left { IfOk result
-        (λ b. b ≡ is_left only_new (replica_of children.old.entries) (drop depth path.now)) }
-    ensures allowed { OnOk result (put_fault only_new
-        (replica_of children.old.entries) (drop depth path.now) contents ≡ None) }
-    ensures ok { OnOk result (replica_of children.new.entries
-        ≡ with_put only_new (replica_of children.old.entries) (drop depth path.now) contents) }
-    ensures fault { IfErr result (IsRefusal (put_fault only_new
-        (replica_of children.old.entries) (drop depth path.now) contents)) }
-    ensures err { OnErr result (replica_of children.new.entries ≡ replica_of children.old.entries) }
+        (λ b. b ≡ is_left_among only_new children.old (drop depth path.now)) }
+    ensures allowed { OnOk result
+        (CanPut only_new children.old (drop depth path.now) contents) }
+    ensures ok { OnOk result
+        (Puts only_new children.old children.new (drop depth path.now) contents) }
+    ensures fault { IfErr result
+        (RefusesPut only_new children.old (drop depth path.now) contents) }
+    ensures err { OnErr result (HoldSame children.old children.new) }
 {
     let len = path.len();
     let name = path.name(depth);
@@ -263,8 +260,8 @@ fn put_below(
         (λ b. b ≡ is_left only_new (replica_of (kids_of node.old)) (drop depth path.now)) }
     ensures allowed { OnOk result
         (put_fault_below only_new node.old (drop depth path.now) contents ≡ None) }
-    ensures ok { OnOk result (replica_of (kids_of node.new)
-        ≡ with_put only_new (replica_of (kids_of node.old)) (drop depth path.now) contents) }
+    ensures ok { OnOk result
+        (PutsBelow only_new node.old node.new (drop depth path.now) contents) }
     ensures fault { IfErr result
         (IsRefusal (put_fault_below only_new node.old (drop depth path.now) contents)) }
     ensures err { OnErr result (replica_of (kids_of node.new) ≡ replica_of (kids_of node.old)) }
@@ -279,8 +276,7 @@ fn put_below(
 /// Returns whether only new contents are put, and there are some at the names of the path from `depth` on, below these.
 fn leaves(children: &BTreeMap<Name, Node>, path: &RelPath, depth: usize, only_new: bool) -> bool
     requires { depth < length path.now }
-    ensures { result
-        ≡ is_left only_new (replica_of children.now.entries) (drop depth path.now) }
+    ensures { result ≡ is_left_among only_new children.now (drop depth path.now) }
 {
     only_new && node_at(children, path, depth).is_some()
 }

@@ -1,6 +1,7 @@
 //! Paths that are met on a walk through a replica. They have a text, and no names of their own.
 ghost use Rattle.std.specs.Prelude.{◌≡◌, ◌<◌, ◌∷◌, ◌++◌, [], length, IfOk, IsTrue, OnOk, encode_utf8_all};
 ghost use Rattle.hub_path.specs.Path.{Name, is_path, is_place, text_of};
+ghost use Rattle.hub_tree.specs.forms.Places.{EndsBeforeName};
 
 use hub_path::Name;
 use std::alloc::{AllocError, Global};
@@ -118,8 +119,8 @@ impl Folder {
 
     /// Appends what is before the name of each path in this directory.
     fn push_to(&self, text: &mut Vec<u8>) -> Result<(), AllocError>
-        ensures text { (n : Name) → OnOk result (text.new.items ++ encode_utf8_all n
-            ≡ text.old.items ++ encode_utf8_all (text_of (self.now ++ n ∷ []))) }
+        ensures text { (n : Name) → OnOk result
+            (EndsBeforeName text.old.items text.new.items self.now n) }
         ensures valid { IsTrue (is_place self.now) }
     {
         if let Some(shared) = &self.shared {

@@ -1,7 +1,7 @@
 ghost use Rattle.std.specs.Prelude.{◌≡◌, ◌<◌, ◌↔◌, length, min, None, is_some, IsTrue, IfOk, IfErr, OnOk, OnErr};
 ghost use Rattle.std.specs.Option.{option_map};
 ghost use Rattle.std.specs.FinMap as fin;
-ghost use Rattle.hub_tree.specs.Nodes.{replica_of, is_left, put_fault, with_put};
+ghost use Rattle.hub_tree.specs.Nodes.{replica_of, is_left, put_fault, with_put, top_replica};
 ghost use Rattle.hub_tree.specs.Shared.{shared_entries};
 ghost use Rattle.hub_tree.specs.Tree as tree;
 
@@ -277,15 +277,14 @@ fn put_top(
 ) -> Result<bool, SetFault>
     requires { 0 < length path.now }
     ensures left { IfOk result
-        (λ b. b ≡ is_left only_new (replica_of (shared_entries top.old)) path.now) }
+        (λ b. b ≡ is_left only_new (top_replica top.old) path.now) }
     ensures allowed { OnOk result
-        (put_fault only_new (replica_of (shared_entries top.old)) path.now contents ≡ None) }
-    ensures ok { OnOk result (replica_of (shared_entries top.new)
-        ≡ with_put only_new (replica_of (shared_entries top.old)) path.now contents) }
-    ensures fault { IfErr result (tree.IsRefusal
-        (put_fault only_new (replica_of (shared_entries top.old)) path.now contents)) }
-    ensures err { OnErr result
-        (replica_of (shared_entries top.new) ≡ replica_of (shared_entries top.old)) }
+        (put_fault only_new (top_replica top.old) path.now contents ≡ None) }
+    ensures ok { OnOk result
+        (top_replica top.new ≡ with_put only_new (top_replica top.old) path.now contents) }
+    ensures fault { IfErr result
+        (tree.IsRefusal (put_fault only_new (top_replica top.old) path.now contents)) }
+    ensures err { OnErr result (top_replica top.new ≡ top_replica top.old) }
 {
     if let Some(shared) = top {
         return put_shared(alloc, shared, path, 0, contents, only_new);

@@ -1,7 +1,7 @@
 -- What is answered over files.
-use Rattle.std.specs.Prelude.{◌≡◌, ◌⊎◌, ◌++◌, ℕ, Bool, false, true, List, [], ◌∷◌, Option, Some, None, Ok, Err, is_some, codes, map, String, string_bytes}
+use Rattle.std.specs.Prelude.{◌≡◌, ◌⊎◌, ◌++◌, ℕ, Bool, false, true, List, [], ◌∷◌, Option, Some, None, Ok, Err, is_some, codes, map, string_bytes}
 use Rattle.std.specs.List.{All, Contains, slice_get}
-use Rattle.hub_cli.specs.Words.{Names, Request, asked_of}
+use Rattle.hub_cli.specs.Words.{Names, Request}
 use Rattle.hub_bundle.specs.Files.{bundle_of, first_faulty, part_fault}
 use Rattle.hub_bundle.specs.declared.part.Kind.{Kind}
 use Rattle.hub_bundle.specs.declared.part.Kind.TheVariants.{Profile, Rules, State, Certificates}
@@ -21,7 +21,6 @@ use Rattle.hub_hosts.specs.declared.fault.HostsFault.{HostsFault}
 use Rattle.hub_hosts.specs.declared.fault.HostsFault.TheVariants as hosts_fault
 use Rattle.hub_include.specs.declared.fault.Why.{Why}
 use Rattle.hub_include.specs.declared.fault.Why.TheVariants as why
-use Rattle.hub_text.specs.declared.watched.Watched.{Watched}
 
 -- The line that says what is wrong with a file.
 abbrev pub file_fault_line : List ℕ → List ℕ → List ℕ
@@ -113,9 +112,12 @@ reason_of None = []
 reason_of (Some BadName) = codes "BadName"
 reason_of (Some (HasHeading line)) = codes "HasHeading"
 
+abbrev pub reason_for : Part → List ℕ
+reason_for p = reason_of (part_fault p)
+
 abbrev pub reason_in : Option Part → List ℕ
 reason_in None = []
-reason_in (Some p) = reason_of (part_fault p)
+reason_in (Some p) = reason_for p
 
 -- Why the file of that number can't be a section.
 abbrev pub reason_at : List Part → ℕ → List ℕ
@@ -149,8 +151,11 @@ option_labels names =
     label_if Rules names.rules
     ++ (label_if State names.state ++ label_if Certificates names.certificates)
 
+abbrev pub profile_labels : List (List ℕ) → List Label
+profile_labels files = map (λ file. (Profile, file)) files
+
 abbrev pub labels : Names → List Label
-labels names = map (λ file. (Profile, file)) names.profiles ++ option_labels names
+labels names = profile_labels names.profiles ++ option_labels names
 
 -- What reads of files give, and what folders list, where it is known.
 pub record Disk : Type 0 where
@@ -237,10 +242,3 @@ pub record ServesNamed (disk : Disk) (asked : Option Request) (sources : Sources
     (old new : Option (List ℕ)) (failed : Bool) (status : ℕ) : Type 0 where
   pub served : is_some asked ≡ true → ServesFiles disk asked sources old new failed status
   pub nothing : asked ≡ None → AnswersNothing old new status
-
--- The same for words, and a writer before and after, of which this tells the bytes.
-abbrev pub ServesFilesTo : {E Z : Type 0} → Watched E → Watched E → (E → Option (List ℕ)) → Disk
-    → List (String Z) → Sources → ℕ → Type 0
-ServesFilesTo output output_after contents disk words sources status =
-    ServesFiles disk (asked_of (map string_bytes words)) sources (contents output.device)
-    (contents output_after.device) output_after.failed status

@@ -1,17 +1,20 @@
 -- The files that are read.
-use Rattle.std.specs.Prelude.{◌≡◌, List, ℕ, Err, Option, Some, option_map, string_bytes}
+use Rattle.std.specs.Prelude.{◌≡◌, ◌++◌, map, List, ℕ, Err, Option, Some, option_map, string_bytes}
 use Rattle.std.specs.List.{Contains}
 use Rattle.hub_cli.specs.Words.{Names, names_of}
 use Rattle.hub_cli.specs.declared.files.Options.{Options}
+use Rattle.hub_bundle.specs.declared.part.Kind.TheVariants.{Profile}
 use Rattle.hub_folder.specs.Operands.{IsUnnamed}
-use Rattle.hub_folder.specs.Reading.{HasBytes, HasFault, Reads}
+use Rattle.hub_folder.specs.Told.{path_and_text}
+use Rattle.hub_folder.specs.declared.folder.FolderProfile.{FolderProfile}
+use Rattle.hub_folder.specs.Reading.{HasBytes, HasFault, Lists, Reads}
 use Rattle.hub_hosts.specs.Table.{Row, rows_of}
 use denote.Ref.{Bor}
 use Rattle.hubsync.specs.declared.files.Held.{Held}
 use Rattle.hubsync.specs.declared.files.Named.{Named}
 use Rattle.hubsync.specs.declared.files.Unserved.{Unserved}
 use Rattle.hubsync.specs.declared.files.Unserved.TheVariants.{BadHosts, File, Hosts, OutOfMemory, Untaken}
-use Rattle.hubsync.specs.Bundled.{Disk, Label, Sources, labels}
+use Rattle.hubsync.specs.Bundled.{AreRead, AreSections, AreTaken, Disk, Label, Sources, disk_of, for_hosts, labels}
 
 abbrev pub label_named : Named → Label
 label_named n = (n.kind, n.file.now)
@@ -22,6 +25,43 @@ label_held h = (h.kind, string_bytes h.file)
 -- The path of a file that was read, and its bytes.
 abbrev pub bytes_held : Held → List ℕ × List ℕ
 bytes_held h = (string_bytes h.file, h.bytes.items)
+
+-- What is held has the sections of files, as `AreRead`, `AreTaken` and `AreSections` say.
+abbrev pub HoldRead : Reads → Names → List Held → Type 0
+HoldRead reads names held = AreRead reads names (map label_held held) (map bytes_held held)
+
+abbrev pub HoldTaken : {F : Type 0} → (F → Reads) → (F → Lists) → F → Names → List Held → Type 0
+HoldTaken reads lists reader names held =
+    AreTaken (disk_of reads lists reader) names (map label_held held) (map bytes_held held)
+
+abbrev pub HoldSections : {F : Type 0} → (F → Reads) → (F → Lists) → F → Sources → List Held
+    → Type 0
+HoldSections reads lists reader sources held =
+    AreSections (disk_of reads lists reader) sources (map label_held held) (map bytes_held held)
+
+-- What is held has the labels of these profiles and then of the others, and their texts with paths
+-- in place of the roots of hosts.
+abbrev pub HaveLabels : List FolderProfile → List Held → List Held → Type 0
+HaveLabels profiles others held =
+    map label_held held
+    ≡ map (λ file. (Profile, file.0)) (map path_and_text profiles) ++ map label_held others
+
+abbrev pub HaveTexts : Option (List Row) → List FolderProfile → List Held → List Held → Type 0
+HaveTexts table profiles others held =
+    map bytes_held held
+    ≡ map (for_hosts table) (map path_and_text profiles) ++ map bytes_held others
+
+-- These labels are added to those of the files that are named.
+abbrev pub AddsLabels : List Named → List Named → List Label → Type 0
+AddsLabels old new ls = map label_named new ≡ map label_named old ++ ls
+
+-- A borrowed text, if there is one.
+abbrev pub text_in : Option (Bor (List ℕ)) → Option (List ℕ)
+text_in text = option_map (λ f. f.now) text
+
+-- The claim holds of names that have this file of a table of hosts.
+abbrev pub OfHosts : Option (Bor (List ℕ)) → (Names → Type 0) → Type 0
+OfHosts file C = (names : Names) → names.hosts ≡ text_in file → C names
 
 -- A borrowed table of hosts, if there is one.
 abbrev pub table_in : Option (Bor (List Row)) → Option (List Row)

@@ -4,6 +4,7 @@ use Rattle.hub_cli.specs.Words.{are_none, asked_of, files_of, is_strict_of, is_u
 use Rattle.hub_serve.specs.Reads.{Reads as InputReads, reads_between}
 use Rattle.hubsync.specs.Bundled.{Disk, ServesInput, ServesNamed, Sources, disk_of}
 use Rattle.hubsync.specs.Strict.{Strictly}
+use Rattle.hubsync.specs.declared.captured.Captured.{Captured}
 use Rattle.hub_text.specs.declared.watched.Watched.{Watched}
 use Rattle.hub_folder.specs.Reading.{Lists, Reads}
 
@@ -24,10 +25,11 @@ pub record AnswersWords (disk : Disk) (words : List (List ℕ)) (remaining old n
 
 -- The same of a reader of files, of an input and an output before and after, and of words. The first
 -- two functions tell the bytes of the input and of the output.
-abbrev pub AnswersOver : {D E F Z : Type 0} → Watched D → Watched D → Watched E → Watched E
+abbrev pub AnswersOver : {D E F Z : Type 0} → Watched (Captured D) → Watched (Captured D)
+    → Watched (Captured E) → Watched (Captured E)
     → (D → Option (List ℕ)) → (E → Option (List ℕ)) → (F → Reads) → (F → Lists) → F
     → List (String Z) → ℕ → Type 0
 AnswersOver input input_after output output_after remaining contents reads lists reader words status =
-    AnswersWords (disk_of reads lists reader) (map string_bytes words) (remaining input.device)
-    (contents output.device) (contents output_after.device) (reads_between input input_after)
-    output_after.failed status
+    AnswersWords (disk_of reads lists reader) (map string_bytes words)
+    (remaining input.device.device) (contents output.device.device)
+    (contents output_after.device.device) (reads_between input input_after) output_after.failed status

@@ -1,11 +1,9 @@
 //! Answers over a bundle that is made of files.
-ghost use Rattle.std.specs.Prelude.{◌≡◌, ◌++◌, ◌∷◌, [], IfOk, codes, false, map, string_bytes};
-ghost use Rattle.hub_cli.specs.Words.{asked_of};
-ghost use Rattle.hub_bundle.specs.Files as files;
+ghost use Rattle.std.specs.Prelude.{◌≡◌, IfOk, false};
 ghost use Rattle.hub_bundle.specs.Files.{bundle_of};
-ghost use Rattle.hub_serve.specs.Serves.{WritesText};
+ghost use Rattle.hubsync.specs.Written.{ReportsFault, ServesPartsTo, WritesTextTo};
 ghost use Rattle.hubsync.specs.Bundled as bundled;
-ghost use Rattle.hubsync.specs.Bundled.{ServesBundle, ServesParts, WritesFault, file_fault_line, file_at, memory_line, reason_at};
+ghost use Rattle.hubsync.specs.Bundled.{file_fault_line, file_at, memory_line, reason_at, reason_for};
 
 use crate::captured::Captured;
 use crate::served::{Answered, Capture, serve_with_remarks};
@@ -29,9 +27,7 @@ pub fn serve_parts<T: AllocGlobal + Clock + Eprint + Threads + Wait + Sync, W: W
     capture: &Capture,
 ) -> Answered
     requires { output.old.failed ≡ false }
-    ensures { ServesParts (asked_of (map string_bytes words.now)) parts.now
-        (W.contents output.old.device.device) (W.contents output.new.device.device)
-        output.new.failed result.status }
+    ensures { ServesPartsTo output.old output.new W.contents words.now parts.now result.status }
 {
     let alloc = rt.alloc();
     match bundle_of(alloc, parts) {
@@ -52,9 +48,8 @@ fn write_part_fault<T: AllocGlobal + Eprint, W: Write>(
     output: &mut Watched<Captured<'_, W>>,
 ) -> u8
     requires { output.old.failed ≡ false }
-    ensures { WritesFault (file_at parts.now i) (reason_at parts.now i)
-        (W.contents output.old.device.device) (W.contents output.new.device.device)
-        output.new.failed result }
+    ensures { ReportsFault output.old output.new W.contents (file_at parts.now i)
+        (reason_at parts.now i) result }
 {
     match parts.get(i) {
         Some(part) => write_why(rt, part, output),
@@ -69,9 +64,8 @@ fn write_why<T: AllocGlobal + Eprint, W: Write>(
     output: &mut Watched<Captured<'_, W>>,
 ) -> u8
     requires { output.old.failed ≡ false }
-    ensures { WritesFault part.now.file.now (bundled.reason_of (files.part_fault part.now))
-        (W.contents output.old.device.device) (W.contents output.new.device.device)
-        output.new.failed result }
+    ensures { ReportsFault output.old output.new W.contents part.now.file.now
+        (reason_for part.now) result }
 {
     let fault = part_fault(part);
     let status = write_fault(rt.alloc(), part.file.as_bytes(), reason_of(fault), output);
@@ -113,9 +107,7 @@ pub fn write_fault<W: Write>(
     output: &mut Watched<Captured<'_, W>>,
 ) -> u8
     requires { output.old.failed ≡ false }
-    ensures { WritesFault file.now reason.now
-        (W.contents output.old.device.device) (W.contents output.new.device.device)
-        output.new.failed result }
+    ensures { ReportsFault output.old output.new W.contents file.now reason.now result }
 {
     match fault_line(alloc, file, reason) {
         Ok(line) => write_text(line.as_slice(), 2, output),
@@ -139,8 +131,7 @@ fn fault_line(alloc: Global, file: &[u8], reason: &str) -> Result<Vec<u8>, Alloc
 /// Says that memory is out.
 pub fn write_memory<W: Write>(output: &mut Watched<Captured<'_, W>>) -> u8
     requires { output.old.failed ≡ false }
-    ensures { WritesText (W.contents output.old.device.device) (W.contents output.new.device.device)
-        memory_line 2 output.new.failed result }
+    ensures { WritesTextTo output.old output.new W.contents memory_line 2 result }
 {
     write_text(b"fault: out of memory\n", 2, output)
 }
@@ -148,8 +139,7 @@ pub fn write_memory<W: Write>(output: &mut Watched<Captured<'_, W>>) -> u8
 /// Writes a text and returns its status, or 2 if a write or the flush failed.
 fn write_text<W: Write>(text: &[u8], status: u8, output: &mut Watched<Captured<'_, W>>) -> u8
     requires { output.old.failed ≡ false }
-    ensures { WritesText (W.contents output.old.device.device) (W.contents output.new.device.device)
-        text.now status output.new.failed result }
+    ensures { WritesTextTo output.old output.new W.contents text.now status result }
 {
     if output.write_all(text).is_err() || output.flush().is_err() {
         return 2;

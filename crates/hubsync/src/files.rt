@@ -1,11 +1,13 @@
 //! The files that the words on the command line name, and what they have.
-ghost use Rattle.std.specs.Prelude.{◌≡◌, ◌++◌, false, map, option_map, IfErr, IfOk, OnOk};
+ghost use Rattle.std.specs.Prelude.{◌≡◌, ◌++◌, false, map, IfErr, IfOk, OnOk};
 ghost use Rattle.std.specs.List.{All};
-ghost use Rattle.hub_cli.specs.Words.{Names, names_of};
+ghost use Rattle.hub_cli.specs.Words.{names_of};
 ghost use Rattle.hub_bundle.specs.declared.part.Kind.TheVariants.{Profile};
 ghost use Rattle.hub_folder.specs.Told.{path_and_text};
-ghost use Rattle.hubsync.specs.Bundled.{AreRead, AreSections, AreTaken, HasContents, IsTable, bytes_of, for_hosts, label_if, label_of, labels, option_labels, ServesFilesTo, disk_of};
-ghost use Rattle.hubsync.specs.Named.{IsUnreadFile, IsUnreadOf, IsUnserved, bytes_held, label_held, label_named, sources_in, table_in};
+ghost use Rattle.hubsync.specs.Bundled.{HasContents, IsTable, bytes_of, for_hosts, label_if, label_of, labels, option_labels, profile_labels, disk_of};
+ghost use Rattle.hubsync.specs.Named.{AddsLabels, HaveLabels, HaveTexts, HoldRead, HoldSections, HoldTaken};
+ghost use Rattle.hubsync.specs.Named.{IsUnreadFile, IsUnreadOf, IsUnserved, OfHosts, bytes_held, label_held, label_named, sources_in, table_in, text_in};
+ghost use Rattle.hubsync.specs.Written.{ServesFilesTo, WritesNothing};
 
 use crate::bundled::{serve_parts, write_memory};
 use crate::captured::Captured;
@@ -85,8 +87,8 @@ pub fn serve_files<
     capture: &Capture,
 ) -> Answered
     requires { output.old.failed ≡ false }
-    ensures { ServesFilesTo output.old output.new (λ d. W.contents d.device)
-        (disk_of F.reads F.lists reader.now) words.now (sources_in options.now) result.status }
+    ensures { ServesFilesTo output.old output.new W.contents (disk_of F.reads F.lists reader.now)
+        words.now (sources_in options.now) result.status }
 {
     match serve_named(rt, words, options, reader, output, capture) {
         Ok(answered) => answered,
@@ -119,14 +121,12 @@ fn serve_named<
     capture: &Capture,
 ) -> Result<Answered, Unserved<'a>>
     requires { output.old.failed ≡ false }
-    ensures served { IfOk result (λ a. ServesFilesTo output.old output.new
-        (λ d. W.contents d.device) (disk_of F.reads F.lists reader.now) words.now
-        (sources_in options.now) a.status) }
+    ensures served { IfOk result (λ a. ServesFilesTo output.old output.new W.contents
+        (disk_of F.reads F.lists reader.now) words.now (sources_in options.now) a.status) }
     ensures named { IfErr result
         (IsUnserved (disk_of F.reads F.lists reader.now) (names_of options.now.files)) }
     ensures unread { IfErr result (λ _. output.new.failed ≡ false) }
-    ensures silent { IfErr result (λ _. W.contents output.new.device.device
-        ≡ W.contents output.old.device.device) }
+    ensures silent { IfErr result (λ _. WritesNothing output.old output.new W.contents) }
 {
     let alloc = rt.alloc();
     let held = read_sections(alloc, reader, options)?;
@@ -173,11 +173,9 @@ fn read_sections<'a, F: FileReader>(
     reader: &F,
     options: &Options<'a>,
 ) -> Result<Vec<Held>, Unserved<'a>>
-    ensures ok { IfOk result (λ v. AreSections
-        (record { reads = F.reads reader.now; lists = F.lists reader.now }) (sources_in options.now)
-        (map label_held v.items) (map bytes_held v.items)) }
-    ensures err { IfErr result (IsUnserved
-        (record { reads = F.reads reader.now; lists = F.lists reader.now })
+    ensures ok { IfOk result (λ v. HoldSections F.reads F.lists reader.now
+        (sources_in options.now) v.items) }
+    ensures err { IfErr result (IsUnserved (disk_of F.reads F.lists reader.now)
         (names_of options.now.files)) }
 {
     if options.is_for_unison {
@@ -193,10 +191,9 @@ fn read_plainly<'a, F: FileReader>(
     reader: &F,
     files: &Files<'a>,
 ) -> Result<Vec<Held>, Unserved<'a>>
-    ensures ok { IfOk result (λ v. AreRead (F.reads reader.now) (names_of files.now)
-        (map label_held v.items) (map bytes_held v.items)) }
-    ensures err { IfErr result (IsUnserved
-        (record { reads = F.reads reader.now; lists = F.lists reader.now }) (names_of files.now)) }
+    ensures ok { IfOk result (λ v. HoldRead (F.reads reader.now) (names_of files.now) v.items) }
+    ensures err { IfErr result (IsUnserved (disk_of F.reads F.lists reader.now)
+        (names_of files.now)) }
 {
     let named = named_files(alloc, files)?;
     match read_all(alloc, reader, named.as_slice()) {
@@ -211,11 +208,10 @@ fn read_for_unison<'a, F: FileReader>(
     reader: &F,
     files: &Files<'a>,
 ) -> Result<Vec<Held>, Unserved<'a>>
-    ensures ok { IfOk result (λ v. AreTaken
-        (record { reads = F.reads reader.now; lists = F.lists reader.now }) (names_of files.now)
-        (map label_held v.items) (map bytes_held v.items)) }
-    ensures err { IfErr result (IsUnserved
-        (record { reads = F.reads reader.now; lists = F.lists reader.now }) (names_of files.now)) }
+    ensures ok { IfOk result (λ v. HoldTaken F.reads F.lists reader.now (names_of files.now)
+        v.items) }
+    ensures err { IfErr result (IsUnserved (disk_of F.reads F.lists reader.now)
+        (names_of files.now)) }
 {
     let profiles = match profiles_named(alloc, reader, files.profiles.as_slice()) {
         Ok(profiles) => profiles,
@@ -238,11 +234,9 @@ fn read_hosts<'a, F: FileReader>(
     reader: &F,
     file: Option<&'a str>,
 ) -> Result<Option<Hosts>, Unserved<'a>>
-    ensures ok { IfOk result (λ h. IsTable (F.reads reader.now)
-        (option_map (λ f. f.now) file.entry) h) }
-    ensures err { (names : Names) → names.hosts ≡ option_map (λ f. f.now) file.entry
-        → IfErr result (IsUnserved
-        (record { reads = F.reads reader.now; lists = F.lists reader.now }) names) }
+    ensures ok { IfOk result (λ h. IsTable (F.reads reader.now) (text_in file.entry) h) }
+    ensures err { OfHosts file.entry
+        (λ names. IfErr result (IsUnserved (disk_of F.reads F.lists reader.now) names)) }
 {
     let Some(file) = file else {
         return Ok(None);
@@ -265,12 +259,9 @@ fn with_profiles(
     hosts: Option<&Hosts>,
     others: Vec<Held>,
 ) -> Result<Vec<Held>, AllocError>
-    ensures labels { IfOk result (λ v. map label_held v.items
-        ≡ map (λ file. (Profile, file.0)) (map path_and_text profiles.items)
-        ++ map label_held others.items) }
-    ensures bytes { IfOk result (λ v. map bytes_held v.items
-        ≡ map (for_hosts (table_in hosts.entry)) (map path_and_text profiles.items)
-        ++ map bytes_held others.items) }
+    ensures labels { IfOk result (λ v. HaveLabels profiles.items others.items v.items) }
+    ensures bytes { IfOk result (λ v. HaveTexts (table_in hosts.entry) profiles.items others.items
+        v.items) }
 {
     let mut held = Vec::new(alloc);
     for profile in profiles {
@@ -333,8 +324,8 @@ fn option_files<'a>(
     files: &Files<'a>,
     profiles: Vec<Named<'a>>,
 ) -> Result<Vec<Named<'a>>, AllocError>
-    ensures { IfOk result (λ v. map label_named v.items
-        ≡ map label_named profiles.entry.items ++ option_labels (names_of files.now)) }
+    ensures { IfOk result (λ v. AddsLabels profiles.entry.items v.items
+        (option_labels (names_of files.now))) }
 {
     let mut named = profiles;
     push_named(&mut named, Kind::Rules, files.rules)?;
@@ -346,7 +337,7 @@ fn option_files<'a>(
 /// The files of profiles.
 fn profile_files<'a>(alloc: Global, files: &[&'a str]) -> Result<Vec<Named<'a>>, AllocError>
     ensures { IfOk result (λ v. map label_named v.items
-        ≡ map (λ file. (Profile, file)) (map (λ f. f.now) files.now)) }
+        ≡ profile_labels (map (λ f. f.now) files.now)) }
 {
     let mut named = Vec::new(alloc);
     for file in files {
@@ -362,8 +353,8 @@ fn push_named<'a>(
     kind: Kind,
     file: Option<&'a str>,
 ) -> Result<(), AllocError>
-    ensures { OnOk result (map label_named named.new.items ≡ map label_named named.old.items
-        ++ label_if kind (option_map (λ f. f.now) file.entry)) }
+    ensures { OnOk result (AddsLabels named.old.items named.new.items
+        (label_if kind (text_in file.entry))) }
 {
     if let Some(file) = file {
         named.push(Named { kind, file })?;

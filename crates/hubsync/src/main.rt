@@ -18,9 +18,9 @@ mod untaken;
 
 ghost use Rattle.std.specs.Prelude.{◌≡◌, false, IfErr, IfOk};
 ghost use Rattle.std.specs.Process.{exit_status};
-ghost use Rattle.hub_serve.specs.Serves.{AnswersNothing};
 ghost use Rattle.hubsync.specs.Process.{AnswersOver};
 ghost use Rattle.hubsync.specs.Strict.{strict_status_of};
+ghost use Rattle.hubsync.specs.Written.{AnswersNothingTo};
 
 use crate::bundled::write_memory;
 use crate::captured::Captured;
@@ -73,10 +73,9 @@ fn run<T: AllocGlobal + Clock + Eprint + Threads + Wait + Sync, F: FileReader, R
     requires input { input.old.failed ≡ false }
     requires output { output.old.failed ≡ false }
     ensures read { IfOk words (λ v. AnswersOver input.old input.new output.old output.new
-        (λ d. R.remaining d.device) (λ d. W.contents d.device) F.reads F.lists reader.now v.items
+        R.remaining W.contents F.reads F.lists reader.now v.items (exit_status result)) }
+    ensures unread { IfErr words (λ _. AnswersNothingTo output.old output.new W.contents
         (exit_status result)) }
-    ensures unread { IfErr words (λ _. AnswersNothing (W.contents output.old.device.device)
-        (W.contents output.new.device.device) (exit_status result)) }
 {
     let status = match words {
         Ok(words) => answer(
@@ -111,8 +110,8 @@ fn answer<
 ) -> u8
     requires input { input.old.failed ≡ false }
     requires output { output.old.failed ≡ false }
-    ensures { AnswersOver input.old input.new output.old output.new (λ d. R.remaining d.device)
-        (λ d. W.contents d.device) F.reads F.lists reader.now words.now result }
+    ensures { AnswersOver input.old input.new output.old output.new R.remaining W.contents F.reads
+        F.lists reader.now words.now result }
 {
     match read_options(rt.alloc(), words) {
         Ok(options) => {

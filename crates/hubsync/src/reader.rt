@@ -1,6 +1,8 @@
 //! Files, read by their names.
-ghost use Rattle.std.specs.Prelude.{◌≡◌, ◌≤◌, ℕ, List, Option, None, Some, length, IfErr, IfOk, IfSome, IsErrOf};
+ghost use Rattle.std.specs.Prelude.{◌≡◌, Option, None, Some, IfOk, IfSome, IsErrOf};
+ghost use Rattle.hub_folder.specs.declared.reader.ReadFault.TheVariants.{TurnsSpent};
 ghost use Rattle.hubsync.specs.Reading as spec;
+ghost use Rattle.hubsync.specs.Reading.{IsTooLong};
 
 use crate::captured::{Captured, Prefix};
 use hub_bundle::{InputFault, READ_TURNS, read_input};
@@ -65,8 +67,8 @@ fn names_in<T: Files + Alloc + Clone + Drop>(
 /// Reads all bytes that a device has.
 fn read_to_end<R: Read + Drop>(alloc: Global, device: R) -> Result<Vec<u8>, Unread>
     ensures whole { IfOk result (λ v. IfSome (R.remaining device) (λ bytes. v.items ≡ bytes)) }
-    ensures turns_spent { IsErrOf result (Unread.File ReadFault.TurnsSpent)
-        → IfSome (R.remaining device) (λ bytes. READ_TURNS ≤ length bytes) }
+    ensures turns_spent { IsErrOf result (Unread.File TurnsSpent)
+        → IfSome (R.remaining device) IsTooLong }
 {
     let prefix = RefCell::new(Prefix::new(alloc, 0));
     let mut input = Watched::new(Captured::new(device, &prefix));

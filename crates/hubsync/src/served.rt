@@ -1,7 +1,6 @@
 //! An answer, and remarks on it.
-ghost use Rattle.std.specs.Prelude.{◌≡◌, false, map, string_bytes};
-ghost use Rattle.hub_cli.specs.Words.{asked_of};
-ghost use Rattle.hub_serve.specs.Serves.{ServesOver};
+ghost use Rattle.std.specs.Prelude.{◌≡◌, false};
+ghost use Rattle.hubsync.specs.Written.{ServesFor};
 
 use crate::captured::{Captured, Prefix};
 use crate::terminal::Terminal;
@@ -84,8 +83,8 @@ pub fn serve_with_remarks<
 ) -> Answered
     requires input { input.old.failed ≡ false }
     requires output { output.old.failed ≡ false }
-    ensures { ServesOver input.old input.new output.old output.new (λ d. R.remaining d.device)
-        (λ d. W.contents d.device) (asked_of (map string_bytes words.now)) result.status }
+    ensures { ServesFor input.old input.new output.old output.new R.remaining W.contents words.now
+        result.status }
 {
     let progress = Terminal::new(rt, capture.by_terminal);
     let status = serve(rt, words, input, output, &progress);

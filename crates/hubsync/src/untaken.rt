@@ -1,7 +1,8 @@
 //! Why files aren't served: what is wrong with a file, a folder, a line that includes a file, or a table of hosts.
-ghost use Rattle.std.specs.Prelude.{◌≡◌, ◌++◌, false, codes, string_bytes, IfOk};
+ghost use Rattle.std.specs.Prelude.{◌≡◌, ◌++◌, false, codes, IfOk};
 ghost use Rattle.hub_folder.specs.Reading.{fault_word};
-ghost use Rattle.hubsync.specs.Bundled.{WritesFault, WritesUntaken, hosts_word, why_word};
+ghost use Rattle.hubsync.specs.Bundled.{hosts_word, why_word};
+ghost use Rattle.hubsync.specs.Written.{ReportsFault, ReportsUntaken};
 
 use crate::bundled::{write_fault, write_memory};
 use crate::captured::Captured;
@@ -21,9 +22,7 @@ pub fn write_unread<T: AllocGlobal + Eprint, W: Write>(
     output: &mut Watched<Captured<'_, W>>,
 ) -> u8
     requires { output.old.failed ≡ false }
-    ensures { WritesFault file.now (fault_word fault)
-        (W.contents output.old.device.device) (W.contents output.new.device.device)
-        output.new.failed result }
+    ensures { ReportsFault output.old output.new W.contents file.now (fault_word fault) result }
 {
     match fault {
         ReadFault::Missing(error) | ReadFault::ReadFailed(error) => {
@@ -46,9 +45,7 @@ pub fn write_untaken<T: AllocGlobal + Eprint, W: Write>(
     output: &mut Watched<Captured<'_, W>>,
 ) -> u8
     requires { output.old.failed ≡ false }
-    ensures { WritesUntaken fault
-        (W.contents output.old.device.device) (W.contents output.new.device.device)
-        output.new.failed result }
+    ensures { ReportsUntaken output.old output.new W.contents fault result }
 {
     match fault {
         Untaken::File(path, fault) | Untaken::Folder(path, fault) => {
@@ -70,9 +67,7 @@ fn write_gone<T: AllocGlobal + Eprint, W: Write>(
     output: &mut Watched<Captured<'_, W>>,
 ) -> u8
     requires { output.old.failed ≡ false }
-    ensures { WritesFault file.now (codes "ReadFailed")
-        (W.contents output.old.device.device) (W.contents output.new.device.device)
-        output.new.failed result }
+    ensures { ReportsFault output.old output.new W.contents file.now (codes "ReadFailed") result }
 {
     let status = write_fault(rt.alloc(), file.as_bytes(), "ReadFailed", output);
     let _ = eprintln!(rt;
@@ -89,9 +84,7 @@ pub fn write_bad_hosts<T: AllocGlobal + Eprint, W: Write>(
     output: &mut Watched<Captured<'_, W>>,
 ) -> u8
     requires { output.old.failed ≡ false }
-    ensures { WritesFault file.now (hosts_word fault)
-        (W.contents output.old.device.device) (W.contents output.new.device.device)
-        output.new.failed result }
+    ensures { ReportsFault output.old output.new W.contents file.now (hosts_word fault) result }
 {
     match fault {
         HostsFault::BadLine(number) => {
@@ -118,9 +111,7 @@ fn write_bad_line<T: AllocGlobal + Eprint, W: Write>(
     output: &mut Watched<Captured<'_, W>>,
 ) -> u8
     requires { output.old.failed ≡ false }
-    ensures { WritesFault (string_bytes place ++ fault.file) (why_word fault.why)
-        (W.contents output.old.device.device) (W.contents output.new.device.device)
-        output.new.failed result }
+    ensures { ReportsUntaken output.old output.new W.contents (Untaken.Line place fault) result }
 {
     match path_below(rt.alloc(), place.as_str(), fault.file.as_slice()) {
         Ok(path) => {

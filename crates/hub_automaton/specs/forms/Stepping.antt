@@ -53,6 +53,9 @@ ended_choices (c ∷ cs) old = ended_matches c old || ended_choices cs (drop (le
 abbrev pub entered_choices : List (List Piece) → List Bool
 entered_choices cs = flat_map entered cs
 
+abbrev pub entered_all : List Alternatives → List Bool
+entered_all ls = flat_map (λ a. entered_choices a.choices) ls
+
 -- All specifications one after another. After a `/` a `Name` specification looks at the next name.
 abbrev pub stepped_one : NextCharacter → Alternatives → List Bool → List Bool
 stepped_one x a old =

@@ -3,7 +3,7 @@ ghost use Rattle.std.specs.Prelude.{◌≡◌, ◌↔◌, IsSome, IfSome, IsTrue
 ghost use Rattle.std.specs.List.{list_all};
 ghost use Rattle.hub_cert.specs.Apart as values;
 ghost use Rattle.hub_cert.specs.Goals as listed;
-ghost use Rattle.hub_cert.specs.Set.{IsSafeSet, Members};
+ghost use Rattle.hub_cert.specs.Set.{IsSafeSet, OfMembers, OfProfiles};
 ghost use Rattle.hub_cert.specs.declared.goal.Goal.TheVariants.{Breach, Clash};
 
 use crate::goal::{Goal, Place};
@@ -56,8 +56,8 @@ pub fn is_apart(set: &ProfileSet, goal: Goal) -> bool
 
 /// Returns whether kept values alone rule out that clash.
 fn is_apart_clash(profiles: &[Profile], writer: usize, other: usize, place: Place) -> bool
-    ensures { (S : Members) → S.profiles ≡ profiles.now
-        → result ≡ values.is_apart_goal S (Clash writer other place) }
+    ensures { OfProfiles profiles.now
+        (λ S. result ≡ values.is_apart_goal S (Clash writer other place)) }
 {
     if writer == other {
         return false;
@@ -73,8 +73,8 @@ fn is_apart_clash(profiles: &[Profile], writer: usize, other: usize, place: Plac
 
 /// Returns whether kept values alone rule out that breach.
 fn is_apart_breach(profiles: &[Profile], rules: &[Rule], profile: usize, rule: usize) -> bool
-    ensures { (S : Members) → S.profiles ≡ profiles.now → S.rules ≡ rules.now
-        → result ≡ values.is_apart_goal S (Breach profile rule) }
+    ensures { OfMembers profiles.now rules.now
+        (λ S. result ≡ values.is_apart_goal S (Breach profile rule)) }
 {
     if profile >= profiles.len() {
         return false;

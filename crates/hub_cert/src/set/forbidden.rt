@@ -1,9 +1,9 @@
 //! What a rule forbids a profile.
-ghost use Rattle.std.specs.Prelude.{◌≡◌, Some, IfSome, IsSome, IsTrue, slice_get};
-ghost use Rattle.hub_profile.specs.Parts.{Parts, at_side};
-ghost use Rattle.hub_profile.specs.declared.rule.Rule.{Rule};
+ghost use Rattle.std.specs.Prelude.{◌≡◌, Some, IfSome, IsSome, IsTrue};
+ghost use Rattle.hub_profile.specs.Parts.{at_side};
 ghost use Rattle.hub_reach.specs.Reach.{has_root};
 ghost use Rattle.hub_cert.specs.Product.{Forbids};
+ghost use Rattle.hub_cert.specs.Set.{OfProfileAndRule};
 
 use crate::set::ProfileSet;
 use hub_path::{Root, Side};
@@ -21,10 +21,9 @@ pub struct Forbidden {
 /// Returns what a rule of the set forbids a profile of the set, or `None` if there is no such profile or rule, or the
 /// profile doesn't have the rule's root.
 pub fn forbidden_to(set: &ProfileSet, profile: usize, rule: usize) -> Option<Forbidden>
-    ensures forbids { (P : Parts) (R : Rule) → slice_get set.now.profiles profile ≡ Some P
-        → slice_get set.now.rules rule ≡ Some R → IfSome result (Forbids P R) }
-    ensures some { (P : Parts) (R : Rule) → slice_get set.now.profiles profile ≡ Some P
-        → slice_get set.now.rules rule ≡ Some R → IsTrue (has_root P R.root) → IsSome result }
+    ensures forbids { OfProfileAndRule set.now profile rule (λ P R. IfSome result (Forbids P R)) }
+    ensures some { OfProfileAndRule set.now profile rule
+        (λ P R. IsTrue (has_root P R.root) → IsSome result) }
 {
     let profiles = set.profiles();
     let rules = set.rules();

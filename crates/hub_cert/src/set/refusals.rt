@@ -1,15 +1,13 @@
 //! Why profiles and rules make no set.
-ghost use Rattle.std.specs.Prelude.{◌≡◌, ◌⊎◌, ◌<◌, ◌≤◌, ◌++◌, ℕ, length, slice_get, Some, IfOk, IfErr, OnOk, MatchBool, MatchOption, IsTrue};
-ghost use Rattle.hub_automaton.specs.Alphabet.{mentions, plain, spec_characters, RefusesCharacters};
-ghost use Rattle.hub_automaton.specs.declared.alternatives.TheConstants.{SPOTS};
-ghost use Rattle.hub_automaton.specs.declared.fault.AutomatonFault.TheVariants.{TooManyCharacters, TooManySpots};
+ghost use Rattle.std.specs.Prelude.{◌≡◌, ◌<◌, ◌≤◌, ◌++◌, ℕ, length, slice_get, Some, IfOk, IfErr, OnOk, MatchBool, MatchOption};
+ghost use Rattle.hub_automaton.specs.Alphabet.{plain, RefusesCharacters};
 ghost use Rattle.hub_profile.specs.Parts.{Parts, IsProfile};
 ghost use Rattle.hub_profile.specs.declared.rules.TheConstants.{RULES};
 ghost use Rattle.hub_reach.specs.Mention.{Mentions};
-ghost use Rattle.hub_reach.specs.Stage.{spot_count_of};
 ghost use Rattle.hub_cert.specs.Set as of_set;
 ghost use Rattle.hub_cert.specs.Refused as refused;
-ghost use Rattle.hub_profile.specs.declared.rule.Rule.{Rule};
+ghost use Rattle.hub_cert.specs.Set.{OfMembers, OfProfiles};
+ghost use Rattle.hub_cert.specs.Refused.{AreFirstNested, HasNamesakeBefore, IsFirstNestedAfter, NoNamesakeBefore, NoneNested, NoneNestedAfter};
 
 use crate::fault::CheckFault;
 use crate::set::PROFILES;
@@ -28,10 +26,8 @@ pub(crate) fn alphabet_for(
     rules: &[Rule],
 ) -> Result<Alphabet, CheckFault>
     requires { length rules.now ≤ RULES }
-    ensures ok { (S : of_set.Members) → S.profiles ≡ profiles.now → S.rules ≡ rules.now
-        → IfOk result (λ a. of_set.IsSet S a) }
-    ensures err { (S : of_set.Members) → S.profiles ≡ profiles.now → S.rules ≡ rules.now
-        → IfErr result (refused.IsRefused S) }
+    ensures ok { OfMembers profiles.now rules.now (λ S. IfOk result (λ a. of_set.IsSet S a)) }
+    ensures err { OfMembers profiles.now rules.now (λ S. IfErr result (refused.IsRefused S)) }
 {
     check_names(profiles)?;
     check_roots(alloc, profiles, rules)?;
@@ -43,10 +39,8 @@ pub(crate) fn alphabet_for(
 
 /// Returns why profiles are too many, or have no different names.
 fn check_names(profiles: &[Profile]) -> Result<(), CheckFault>
-    ensures ok { (S : of_set.Members) → S.profiles ≡ profiles.now
-        → OnOk result (refused.FewNamed S) }
-    ensures err { (S : of_set.Members) → S.profiles ≡ profiles.now
-        → IfErr result (refused.IsRefused S) }
+    ensures ok { OfProfiles profiles.now (λ S. OnOk result (refused.FewNamed S)) }
+    ensures err { OfProfiles profiles.now (λ S. IfErr result (refused.IsRefused S)) }
 {
     if profiles.len() > PROFILES {
         return Err(CheckFault::TooManyProfiles);
@@ -61,12 +55,11 @@ fn check_names(profiles: &[Profile]) -> Result<(), CheckFault>
 
 /// Returns the fault of the first two nested roots.
 fn check_roots(alloc: Global, profiles: &[Profile], rules: &[Rule]) -> Result<(), CheckFault>
-    ensures apart { (S : of_set.Members) → S.profiles ≡ profiles.now → S.rules ≡ rules.now
-        → OnOk result (of_set.AreApart S) }
+    ensures apart { OfMembers profiles.now rules.now (λ S. OnOk result (of_set.AreApart S)) }
     ensures valid { OnOk result ((i : ℕ) (P : Parts) → slice_get profiles.now i ≡ Some P
         → IsProfile P) }
-    ensures err { (S : of_set.Members) → S.profiles ≡ profiles.now → S.rules ≡ rules.now
-        → refused.FewNamed S → IfErr result (refused.IsRefused S) }
+    ensures err { OfMembers profiles.now rules.now
+        (λ S. refused.FewNamed S → IfErr result (refused.IsRefused S)) }
 {
     let roots = roots_of(alloc, profiles, rules)?;
     let all = roots.as_slice();
@@ -98,14 +91,12 @@ fn alphabet_within_limits(
     profiles: &[Profile],
     rules: &[Rule],
 ) -> Result<Alphabet, AutomatonFault>
-    ensures value { (S : of_set.Members) → S.profiles ≡ profiles.now → S.rules ≡ rules.now
-        → IfOk result (λ a. a ≡ of_set.alphabet_of S) }
-    ensures mentioned { (S : of_set.Members) → S.profiles ≡ profiles.now → S.rules ≡ rules.now
-        → IfOk result (λ a. of_set.Mentioned S a) }
-    ensures few { (S : of_set.Members) → S.profiles ≡ profiles.now → S.rules ≡ rules.now
-        → OnOk result (of_set.HasFewSpots S) }
-    ensures err { (S : of_set.Members) → S.profiles ≡ profiles.now → S.rules ≡ rules.now
-        → IfErr result (refused.IsTooMuch S) }
+    ensures value { OfMembers profiles.now rules.now
+        (λ S. IfOk result (λ a. a ≡ of_set.alphabet_of S)) }
+    ensures mentioned { OfMembers profiles.now rules.now
+        (λ S. IfOk result (λ a. of_set.Mentioned S a)) }
+    ensures few { OfMembers profiles.now rules.now (λ S. OnOk result (of_set.HasFewSpots S)) }
+    ensures err { OfMembers profiles.now rules.now (λ S. IfErr result (refused.IsTooMuch S)) }
 {
     let alphabet = alphabet_with(alloc, profiles, rules)?;
     check_profile_spots(alloc, &alphabet, profiles)?;
@@ -129,8 +120,8 @@ pub(crate) fn repeated_name(profiles: &[Profile]) -> Option<usize>
 /// Returns whether a profile before that one has its name.
 fn has_namesake_before(profiles: &[Profile], later: usize) -> bool
     requires { later < length profiles.now }
-    ensures { MatchBool result ((i : ℕ) × (i < later) × refused.HaveSameName profiles.now i later)
-        ((i : ℕ) → i < later → refused.HaveSameName profiles.now i later → ⊥) }
+    ensures { MatchBool result (HasNamesakeBefore profiles.now later)
+        (NoNamesakeBefore profiles.now later) }
 {
     for earlier in 0..later {
         if profiles[earlier].name() == profiles[later].name() {
@@ -142,8 +133,8 @@ fn has_namesake_before(profiles: &[Profile], later: usize) -> bool
 
 /// Returns the first pair of nested roots.
 pub(crate) fn nested_roots(roots: &[Root]) -> Option<(usize, usize)>
-    ensures { MatchOption result ((m n : ℕ) → m < n → refused.AreNested roots.now m n
-        → ⊥) (λ pair. refused.AreFirstNested roots.now pair.0 pair.1) }
+    ensures { MatchOption result (NoneNested roots.now)
+        (λ pair. AreFirstNested roots.now pair.0 pair.1) }
 {
     for first in 0..roots.len() {
         if let Some(second) = nested_root_after(roots, first) {
@@ -156,8 +147,8 @@ pub(crate) fn nested_roots(roots: &[Root]) -> Option<(usize, usize)>
 /// Returns the first root after that one such that one of the two lies within the other.
 fn nested_root_after(roots: &[Root], first: usize) -> Option<usize>
     requires { first < length roots.now }
-    ensures { MatchOption result (refused.NoneNestedAfter roots.now first)
-        (refused.IsFirstNestedAfter roots.now first) }
+    ensures { MatchOption result (NoneNestedAfter roots.now first)
+        (IsFirstNestedAfter roots.now first) }
 {
     for second in first + 1..roots.len() {
         if is_nested(&roots[first], &roots[second]) {
@@ -179,8 +170,8 @@ pub(crate) fn roots_of(
     profiles: &[Profile],
     rules: &[Rule],
 ) -> Result<Vec<Root>, AllocError>
-    ensures roots { (S : of_set.Members) → S.profiles ≡ profiles.now → S.rules ≡ rules.now
-        → IfOk result (λ v. v.items ≡ of_set.roots_in S) }
+    ensures roots { OfMembers profiles.now rules.now
+        (λ S. IfOk result (λ v. v.items ≡ of_set.roots_in S)) }
     ensures valid { OnOk result ((i : ℕ) (P : Parts) → slice_get profiles.now i ≡ Some P
         → IsProfile P) }
 {
@@ -210,12 +201,12 @@ pub(crate) fn alphabet_with(
     profiles: &[Profile],
     rules: &[Rule],
 ) -> Result<Alphabet, AutomatonFault>
-    ensures value { (S : of_set.Members) → S.profiles ≡ profiles.now → S.rules ≡ rules.now
-        → IfOk result (λ a. a ≡ of_set.alphabet_of S) }
-    ensures mentioned { (S : of_set.Members) → S.profiles ≡ profiles.now → S.rules ≡ rules.now
-        → IfOk result (λ a. of_set.Mentioned S a) }
-    ensures err { (S : of_set.Members) → S.profiles ≡ profiles.now → S.rules ≡ rules.now
-        → IfErr result (RefusesCharacters plain (of_set.mentioned_in S)) }
+    ensures value { OfMembers profiles.now rules.now
+        (λ S. IfOk result (λ a. a ≡ of_set.alphabet_of S)) }
+    ensures mentioned { OfMembers profiles.now rules.now
+        (λ S. IfOk result (λ a. of_set.Mentioned S a)) }
+    ensures err { OfMembers profiles.now rules.now
+        (λ S. IfErr result (RefusesCharacters plain (of_set.mentioned_in S))) }
 {
     what_is_added_is_mentioned();
     let mut alphabet = Alphabet::new(alloc)?;
@@ -233,11 +224,8 @@ pub(crate) fn check_profile_spots(
     profiles: &[Profile],
 ) -> Result<(), AutomatonFault>
     requires { (i : ℕ) (P : Parts) → slice_get profiles.now i ≡ Some P → Mentions alphabet.now P }
-    ensures few { OnOk result ((i : ℕ) (P : Parts) → slice_get profiles.now i ≡ Some P
-        → spot_count_of P ≤ SPOTS) }
-    ensures err { IfErr result (λ e. (e ≡ AutomatonFault.OutOfMemory)
-        ⊎ ((e ≡ TooManySpots) × ((i : ℕ) × (P : Parts) × (slice_get profiles.now i ≡ Some P)
-        × (SPOTS < spot_count_of P)))) }
+    ensures few { OnOk result (of_set.ProfilesHaveFewSpots profiles.now) }
+    ensures err { IfErr result (refused.RefusesProfiles profiles.now) }
 {
     for profile in profiles {
         // A call of `drop` is cheaper to prove than the drop of a value that is thrown away.
@@ -252,13 +240,9 @@ pub(crate) fn check_rule_spots(
     alphabet: &Alphabet,
     rules: &[Rule],
 ) -> Result<(), AutomatonFault>
-    requires { (k : ℕ) (R : Rule) → slice_get rules.now k ≡ Some R
-        → IsTrue (mentions alphabet.now (spec_characters R.spec)) }
-    ensures few { OnOk result ((k : ℕ) (R : Rule) → slice_get rules.now k ≡ Some R
-        → of_set.rule_spots R ≤ SPOTS) }
-    ensures err { IfErr result (λ e. (e ≡ AutomatonFault.OutOfMemory)
-        ⊎ ((e ≡ TooManySpots) × ((k : ℕ) × (R : Rule) × (slice_get rules.now k ≡ Some R)
-        × (SPOTS < of_set.rule_spots R)))) }
+    requires { of_set.MentionsRules alphabet.now rules.now }
+    ensures few { OnOk result (of_set.RulesHaveFewSpots rules.now) }
+    ensures err { IfErr result (refused.RefusesRules rules.now) }
 {
     for rule in rules {
         drop(SpecSet::build(alloc, alphabet, from_ref(&rule.spec))?);

@@ -59,11 +59,14 @@ item_by p (Some f) = record { path = p; fate = f } ∷ []
 abbrev pub block_items : Block → List Item
 block_items b = item_by b.first.now.path.now b.fate
 
+abbrev pub row_change : Side → Row → Mark → Change
+row_change from r m = change (other from) r.path.now m
+
 abbrev pub row_goes : Side → Row → Change
-row_goes from r = change (other from) r.path.now mark.Absent
+row_goes from r = row_change from r mark.Absent
 
 abbrev pub row_comes : Side → Row → Change
-row_comes from r = change (other from) r.path.now (mark_on from r)
+row_comes from r = row_change from r (mark_on from r)
 
 abbrev pub going_rows : Side → List Row → List Change
 going_rows from rs = map (row_goes from) (reverse (filter (is_going from) rs))

@@ -8,7 +8,9 @@ use Rattle.hub_tree.specs.declared.contents.Mark.{Mark}
 use Rattle.hub_tree.specs.declared.contents.Mark.TheVariants as mark
 use Rattle.hub_reconcile.specs.Items.{other, verb_of, has_parent}
 use Rattle.hub_reconcile.specs.Rows.{seen_on, mark_on, is_changed, is_going, is_coming}
+use Rattle.hub_reconcile.specs.Shown.{shown}
 use Rattle.hub_reconcile.specs.View.{View, is_folder, allowed_at}
+use Rattle.hub_reconcile.specs.declared.picture.Picture.{Picture}
 use Rattle.hub_reconcile.specs.declared.item.Fate.{Fate}
 use Rattle.hub_reconcile.specs.declared.item.Fate.TheVariants.{To, Skip}
 use Rattle.hub_reconcile.specs.declared.item.Reason.TheVariants as reason
@@ -54,3 +56,8 @@ fate_from P V item below from =
     else (if is_blocked from item below then Skip reason.Blocked
     else (if has_parent V (other from) item.path.now then To (other from)
     else Skip reason.NoParent))
+
+-- The same of an item of a picture.
+abbrev pub fate_in : Picture → Row → List Row → Side → Fate
+fate_in picture item below from =
+    fate_from picture.profile.now (shown picture) item below from

@@ -1,5 +1,5 @@
 -- Books and jobs, put in order.
-use Rattle.std.specs.Prelude.{◌≡◌, ◌<◌, ℕ, Bool, List, [], All, length, map, filter, slice_get, Some}
+use Rattle.std.specs.Prelude.{◌≡◌, ◌<◌, ℕ, Bool, false, List, [], All, length, map, filter, slice_get, IsTrue, Some}
 use Rattle.std.specs.List.{list_any}
 use Rattle.hub_path.specs.Path.{Path}
 use Rattle.hub_profile.specs.Parts.{Parts}
@@ -17,9 +17,26 @@ of_tree t = (t.root.now, t.tree)
 abbrev pub of_book : BookValue → Path × Replica
 of_book B = (B.root, B.tree)
 
+-- The profile hasn't this root; or it has it, and its own one is equal.
+abbrev pub Lacks : Parts → Path → Type 0
+Lacks P r = has_root P r ≡ false
+
+abbrev pub IsRootOf : Parts → Path → Path → Type 0
+IsRootOf P r own = (own ≡ r) × IsTrue (has_root P r)
+
+-- The same of several profiles: none has it, or one.
+abbrev pub is_due_at : List Parts → Path → Bool
+is_due_at Ps r = list_any (λ P. has_root P r) Ps
+
+abbrev pub NoneHas : List Parts → Path → Type 0
+NoneHas Ps r = is_due_at Ps r ≡ false
+
+abbrev pub IsRootIn : List Parts → Path → Path → Type 0
+IsRootIn Ps r own = (own ≡ r) × IsTrue (is_due_at Ps r)
+
 -- Whether the book is that of a root of the profiles.
 abbrev pub is_due : List Parts → BookValue → Bool
-is_due Ps B = list_any (λ P. has_root P B.root) Ps
+is_due Ps B = is_due_at Ps B.root
 
 -- The replicas of those books, in their order.
 pub record AreTreesOf (Ps : List Parts) (books : List BookValue) (trees : List WorkingTree) :

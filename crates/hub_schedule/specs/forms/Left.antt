@@ -52,6 +52,22 @@ abbrev pub mark_from : List NextValue → Path → Path → Path → Mark → Ma
 mark_from [] r s p old = old
 mark_from (n ∷ ns) r s p old = mark_of_next n.profile n.next r s p (mark_from ns r s p old)
 
+-- The same of the next archive of a job.
+abbrev pub next_mark : NextValue → Path → Path → Path → Mark → Mark
+next_mark n = mark_of_next n.profile n.next
+
+-- The marks of the next archive at those paths of an archive that the profile reaches were taken.
+abbrev pub TakesMarks : Parts → Archive → Archive → Archive → Archive → Type 0
+TakesMarks P next paths old new =
+    (p : Path) → old_mark_at new p ≡ mark_taken P next paths old p
+
+-- The archive has the marks of the next one at the paths that the profile reaches, and those of
+-- another one elsewhere.
+abbrev pub IsMerged : Parts → Archive → Archive → Archive → Type 0
+IsMerged P next current a =
+    (p : Path) → old_mark_at a p
+    ≡ (if reach P p then old_mark_at next p else old_mark_at current p)
+
 -- The archive of each pair of different roots has these marks, given those that it had.
 abbrev pub HasMarks : (Path → Path → Path → Mark → Mark) → State → State → Type 0
 HasMarks f before after =
@@ -65,6 +81,9 @@ has_pair P r s = has_root P r && has_root P s
 abbrev pub leaves_next_archive : Parts → Option Archive → Path → Path → Bool
 leaves_next_archive P None r s = false
 leaves_next_archive P (Some next) r s = has_pair P r s
+
+abbrev pub leaves_next : NextValue → Path → Path → Bool
+leaves_next n = leaves_next_archive n.profile n.next
 
 abbrev pub one_is_left : List NextValue → Path → Path → Bool
 one_is_left ns r s = list_any (λ n. leaves_next_archive n.profile n.next r s) ns

@@ -1,12 +1,13 @@
 -- What is answered with lines that were found.
 use Rattle.std.specs.Prelude.{◌≡◌, ℕ, Bool, List}
 use Rattle.hub_bundle.specs.declared.sections.BundleContents.{BundleContents}
-use Rattle.hub_cli.specs.Words.{mended}
+use Rattle.hub_cli.specs.Words.{about, mended}
+use Rattle.hub_cli.specs.declared.words.Question.TheVariants as ask
 use Rattle.hub_cli.specs.declared.words.Reading.{Reading}
 use Rattle.hub_mend.specs.declared.piece.Piece.{Piece}
 use Rattle.hub_report.specs.declared.report.Report.{Report}
 use Rattle.hub_serve.specs.Mended.{Mends}
-use Rattle.hub_serve.specs.Told.{Holds}
+use Rattle.hub_serve.specs.Told.{Holds, IsTold}
 use Rattle.hub_serve.specs.Unison.{SpellsAs}
 use Rattle.hub_mend.specs.Additions.{own_text}
 
@@ -15,6 +16,10 @@ abbrev pub HoldsIf : List Piece → Bool → (Reading → BundleContents → Typ
 HoldsIf pieces as_bundle IsSo r =
     (reading : Reading) (bytes : List ℕ) (new : BundleContents) → Mends reading bytes pieces new
     → IsSo reading new → Holds (mended reading as_bundle) bytes r
+
+-- `check` of a bundle whose profiles are read so, and which says this, is answered so.
+abbrev pub CheckTells : Report → Reading → BundleContents → Type 0
+CheckTells r reading new = IsTold (about (ask.Check reading)) new r
 
 -- What the bundle with these lines says only takes away from what the one that they were read of
 -- says.

@@ -1,0 +1,65 @@
+-- What is written to a device of which the first bytes are kept: of it before and after, and of the
+-- function that tells its bytes.
+use Rattle.std.specs.Prelude.{◌≡◌, ℕ, List, Option, String, map, string_bytes}
+use Rattle.hub_bundle.specs.declared.part.Part.{Part}
+use Rattle.hub_cli.specs.Words.{asked_of}
+use Rattle.hub_folder.specs.declared.fault.Untaken.{Untaken}
+use Rattle.hub_serve.specs.Serves.{AnswersNothing, ServesOver, WritesText}
+use Rattle.hub_text.specs.declared.watched.Watched.{Watched}
+use Rattle.hubsync.specs.Bundled.{Disk, ServesFiles, ServesParts, Sources, WritesFault, WritesUntaken}
+use Rattle.hubsync.specs.declared.captured.Captured.{Captured}
+
+-- Nothing is written.
+abbrev pub WritesNothing : {E : Type 0} → Watched (Captured E) → Watched (Captured E)
+    → (E → Option (List ℕ)) → Type 0
+WritesNothing output output_after contents =
+    contents output_after.device.device ≡ contents output.device.device
+
+-- A text is written with this status.
+abbrev pub WritesTextTo : {E : Type 0} → Watched (Captured E) → Watched (Captured E)
+    → (E → Option (List ℕ)) → List ℕ → ℕ → ℕ → Type 0
+WritesTextTo output output_after contents text status result =
+    WritesText (contents output.device.device) (contents output_after.device.device) text status
+    output_after.failed result
+
+-- Nothing is answered.
+abbrev pub AnswersNothingTo : {E : Type 0} → Watched (Captured E) → Watched (Captured E)
+    → (E → Option (List ℕ)) → ℕ → Type 0
+AnswersNothingTo output output_after contents status =
+    AnswersNothing (contents output.device.device) (contents output_after.device.device) status
+
+-- What is wrong with a file is written, or that memory is out.
+abbrev pub ReportsFault : {E : Type 0} → Watched (Captured E) → Watched (Captured E)
+    → (E → Option (List ℕ)) → List ℕ → List ℕ → ℕ → Type 0
+ReportsFault output output_after contents file reason status =
+    WritesFault file reason (contents output.device.device) (contents output_after.device.device)
+    output_after.failed status
+
+-- Why a profile can't be told is written, or that memory is out.
+abbrev pub ReportsUntaken : {E : Type 0} → Watched (Captured E) → Watched (Captured E)
+    → (E → Option (List ℕ)) → Untaken → ℕ → Type 0
+ReportsUntaken output output_after contents fault status =
+    WritesUntaken fault (contents output.device.device) (contents output_after.device.device)
+    output_after.failed status
+
+-- The answer to words is given over the sections that these parts are.
+abbrev pub ServesPartsTo : {E Z : Type 0} → Watched (Captured E) → Watched (Captured E)
+    → (E → Option (List ℕ)) → List (String Z) → List Part → ℕ → Type 0
+ServesPartsTo output output_after contents words parts status =
+    ServesParts (asked_of (map string_bytes words)) parts (contents output.device.device)
+    (contents output_after.device.device) output_after.failed status
+
+-- The answer to words is given over files.
+abbrev pub ServesFilesTo : {E Z : Type 0} → Watched (Captured E) → Watched (Captured E)
+    → (E → Option (List ℕ)) → Disk → List (String Z) → Sources → ℕ → Type 0
+ServesFilesTo output output_after contents disk words sources status =
+    ServesFiles disk (asked_of (map string_bytes words)) sources (contents output.device.device)
+    (contents output_after.device.device) output_after.failed status
+
+-- The answer to words is given over an input, of which the same is known.
+abbrev pub ServesFor : {D E Z : Type 0} → Watched (Captured D) → Watched (Captured D)
+    → Watched (Captured E) → Watched (Captured E) → (D → Option (List ℕ)) → (E → Option (List ℕ))
+    → List (String Z) → ℕ → Type 0
+ServesFor input input_after output output_after remaining contents words status =
+    ServesOver input input_after output output_after (λ d. remaining d.device)
+    (λ d. contents d.device) (asked_of (map string_bytes words)) status

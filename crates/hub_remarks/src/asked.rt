@@ -2,8 +2,11 @@
 
 use crate::ignored::ignoring_line;
 use crate::refusal::say_kept;
+use crate::source_of::profile_section;
 use crate::value::{path_remedy, say_below, say_twice};
 use hub_notes::{has_no_path, line_above};
+use hub_path::PathFault;
+use hub_report::NotRun;
 use hub_source::{Said, Source, covers, name_of, nearest, say, say_placed};
 use std::alloc::{AllocError, Global};
 
@@ -15,12 +18,12 @@ pub(crate) fn say_asked_path(
     out: &mut String,
     source: &Source<'_>,
     words: &[String],
-    fault: &str,
+    fault: PathFault,
 ) -> Said {
     let (name, path) = operands(words);
     match fault {
-        "LeadingSlash" => say_below_root(out, source, name, path),
-        "EmptyName" => say_twice(out, path),
+        PathFault::LeadingSlash => say_below_root(out, source, name, path),
+        PathFault::EmptyName => say_twice(out, path),
         _ => say(out, path_remedy(fault)),
     }
 }
@@ -39,7 +42,7 @@ fn operands(words: &[String]) -> (&str, &str) {
 
 /// Says how to write a path that begins with `/`: below the profile's root, if it lies there.
 fn say_below_root(out: &mut String, source: &Source<'_>, name: &str, path: &str) -> Said {
-    let profile = section_named(source, name).unwrap_or(0);
+    let profile = profile_section(source, name).unwrap_or(0);
     say_below(out, below_root(source, profile, path))
 }
 
@@ -56,23 +59,13 @@ fn below_root<'p>(source: &Source<'_>, profile: usize, path: &'p str) -> &'p str
     below
 }
 
-/// The section of the first profile of that name.
-fn section_named(source: &Source<'_>, name: &str) -> Option<usize> {
-    for line in source.lines() {
-        if line.profile() == Some(name) {
-            return Some(line.section);
-        }
-    }
-    None
-}
-
 /// Says which profiles there are.
-pub(crate) fn say_profiles(out: &mut String, source: &Source<'_>, asked: &str) -> Said {
+pub(crate) fn say_profiles(out: &mut String, source: &Source<'_>, words: &[String]) -> Said {
     let names = profile_names(source)?;
     if names.is_empty() || !source.is_whole() {
         return say(out, "a profile follows a line %profile NAME");
     }
-    say_names(out, source.alloc(), names.as_slice(), asked)
+    say_names(out, source.alloc(), names.as_slice(), operands(words).0)
 }
 
 /// The names of the profiles.
@@ -126,7 +119,7 @@ fn say_meant(out: &mut String, alloc: Global, names: &[&str], asked: &str) -> Sa
 /// Says why a profile doesn't reach a path.
 pub(crate) fn say_not_reached(out: &mut String, source: &Source<'_>, words: &[String]) -> Said {
     let (name, path) = operands(words);
-    let Some(section) = section_named(source, name) else {
+    let Some(section) = profile_section(source, name) else {
         return Ok(());
     };
     if is_kept(source, section, path) {
@@ -157,11 +150,11 @@ fn is_kept(source: &Source<'_>, section: usize, path: &str) -> bool {
 }
 
 /// Says why the jobs weren't run.
-pub(crate) fn say_run_fault(out: &mut String, source: &Source<'_>, fault: &str) -> Said {
-    match fault {
-        "NoWorkers" | "TooManyWorkers" => say(out, "--workers is a number from 1 to 16"),
-        "ThreadRefused" => say(out, "the system gives no further thread: try --workers 1"),
-        _ => say_replicas(out, source),
+pub(crate) fn say_run_fault(out: &mut String, source: &Source<'_>, why: NotRun) -> Said {
+    match why {
+        NotRun::BadWorkers => say(out, "--workers is a number from 1 to 16"),
+        NotRun::ThreadRefused => say(out, "the system gives no further thread: try --workers 1"),
+        NotRun::Unfit => say_replicas(out, source),
     }
 }
 

@@ -1,33 +1,33 @@
 //! Remarks on inputs that are not bundles.
 
-use hub_source::{
-    Said, Source, SourceLine, nearest, number_and_fault, odd_encoding, say, say_line,
-};
+use hub_bundle::{BundleFault, BundleLineFault, InputFault};
+use hub_source::{Said, Source, SourceLine, nearest, odd_encoding, say, say_line};
 use std::alloc::Global;
 
 /// How the headings of sections begin.
 const HEADINGS: &[&str] = &["%profile", "%rules", "%state", "%certificates"];
 
-/// Says what to do about `NUMBER: FAULT` of a bundle.
-pub(crate) fn say_bundle_fault(out: &mut String, source: &Source<'_>, text: &str) -> Said {
-    let Some((number, fault)) = number_and_fault(text) else {
+/// Says what to do about a line that is no bundle's.
+pub(crate) fn say_bundle_fault(
+    out: &mut String,
+    source: &Source<'_>,
+    fault: BundleLineFault,
+) -> Said {
+    let Some(line) = source.line_at(fault.line) else {
         return Ok(());
-    };
-    let Some(line) = source.line_at(number) else {
-        return say_unread(out, fault);
     };
     say_line(out, source.alloc(), &line)?;
     match odd_encoding(line.bytes) {
         Some(words) => say(out, words),
-        None => say_heading_fault(out, source, &line, fault),
+        None => say_heading_fault(out, source, &line, fault.fault),
     }
 }
 
 /// Says why an input wasn't read.
-fn say_unread(out: &mut String, fault: &str) -> Said {
+pub(crate) fn say_unread(out: &mut String, fault: InputFault) -> Said {
     match fault {
-        "TurnsSpent" => say(out, "standard input has not ended after 1,000,000 reads"),
-        _ => Ok(()),
+        InputFault::TurnsSpent => say(out, "standard input has not ended after 1,000,000 reads"),
+        InputFault::ReadFailed | InputFault::OutOfMemory => Ok(()),
     }
 }
 
@@ -36,14 +36,14 @@ fn say_heading_fault(
     out: &mut String,
     source: &Source<'_>,
     line: &SourceLine<'_>,
-    fault: &str,
+    fault: BundleFault,
 ) -> Said {
     match fault {
-        "NoSection" => say(out, "a line %profile NAME is missing: a profile follows it"),
-        "UnknownSection" => say_unknown_section(out, source.alloc(), line.text()),
-        "BadName" => say(out, name_remedy(line)),
-        "SectionTwice" => say_twice(out, source, line),
-        _ => Ok(()),
+        BundleFault::NoSection => say(out, "a line %profile NAME is missing: a profile follows it"),
+        BundleFault::UnknownSection => say_unknown_section(out, source.alloc(), line.text()),
+        BundleFault::BadName => say(out, name_remedy(line)),
+        BundleFault::SectionTwice => say_twice(out, source, line),
+        BundleFault::OutOfMemory => Ok(()),
     }
 }
 

@@ -1,16 +1,14 @@
 //! What hubsync says of the profiles that an overlap or a breach names.
 
-use crate::answer::FirstBytes;
-use crate::mend::is_mend;
+use crate::mend::{is_bundle, is_mend};
 use crate::refusal::{broken_rule, named_profiles};
+use crate::source_of::FirstBytes;
 use crate::unison::is_for_unison;
 use hub_notes::wider_notes;
+use hub_report::{Refusal, Told};
 use hub_source::{Said, Source, SourceFile, SourceLine, say, shown};
 use hub_text::Lines;
 use std::alloc::{AllocError, Global};
-
-/// How the last line of `mend` begins for a set that its lines make safe.
-const MENDED: &[u8] = b"safe with ";
 
 /// What hubsync is to be asked before it is known what to say of an overlap or a breach.
 #[derive(Drop)]
@@ -21,15 +19,22 @@ pub struct Questions {
     pub check: bool,
 }
 
-/// What hubsync answered, and what to these questions, or nothing.
+/// What hubsync answered to such a question.
+#[derive(Drop)]
+pub struct Reply {
+    /// The text.
+    pub text: Vec<u8>,
+    /// What it tells.
+    pub told: Told,
+}
+
+/// What hubsync answered to these questions, if they were asked.
 #[derive(Clone, Copy)]
 pub struct Answers<'a> {
-    /// Whether the status of the answer is 0.
-    pub is_yes: bool,
     /// To `mend --unison`.
-    pub mend: &'a [u8],
+    pub mend: Option<&'a Reply>,
     /// To `check`.
-    pub check: &'a [u8],
+    pub check: Option<&'a Reply>,
 }
 
 /// What is to be asked on an answer. The arguments are those of `remark`.
@@ -38,31 +43,34 @@ pub fn what_to_ask(
     words: &[String],
     files: &[SourceFile<'_>],
     input: FirstBytes<'_>,
-    output: FirstBytes<'_>,
+    told: &Told,
 ) -> Result<Questions, AllocError> {
-    let first = first_line(output.bytes);
     let mut asked = Questions {
         mend: Vec::new(alloc),
-        check: is_for_unison(words) && input.is_whole && is_clash(first),
+        check: false,
     };
-    if is_clash(first) && input.is_whole && !is_mend(words) {
+    let Some(clash) = first_clash(words, told) else {
+        return Ok(asked);
+    };
+    asked.check = is_for_unison(words) && input.is_whole;
+    if input.is_whole && !is_mend(words) {
         let source = Source::read(alloc, input.bytes, input.is_whole, files)?;
-        asked.mend = named_bundle(&source, first)?;
+        asked.mend = named_bundle(&source, clash)?;
     }
     Ok(asked)
 }
 
-/// The text of the first line, or nothing if it is no text.
-fn first_line(bytes: &[u8]) -> &str {
-    match Lines::new(bytes).next() {
-        Some(line) => str::from_utf8(line.text).unwrap_or(""),
-        None => "",
+/// The overlap or the breach that an answer begins with, if it begins with one.
+pub(crate) fn first_clash<'t>(words: &[String], told: &'t Told) -> Option<&'t Refusal> {
+    let refusal = match told {
+        Told::Refused(refusal) => refusal,
+        Told::Mended(mended) if !mended.has_lines && !is_bundle(words) => mended.refusal.as_ref()?,
+        _ => return None,
+    };
+    match refusal {
+        Refusal::Overlap { .. } | Refusal::Breach { .. } => Some(refusal),
+        _ => None,
     }
-}
-
-/// Returns whether an answer of this line is an overlap or a breach.
-pub(crate) fn is_clash(told: &str) -> bool {
-    told.starts_with("overlap: ") || told.starts_with("breach: ")
 }
 
 /// What is known of lines that keep the profiles of a clash apart, or a rule.
@@ -77,14 +85,36 @@ pub(crate) enum Mending<'a> {
 }
 
 /// What the answer of `mend --unison` about the profiles of a clash says of lines, or `mend` itself.
-pub(crate) fn mending_in<'a>(words: &[String], answer: &'a [u8]) -> Mending<'a> {
+pub(crate) fn mending_in<'a>(words: &[String], answer: Option<&'a Reply>) -> Mending<'a> {
     if is_mend(words) {
         return Mending::NotFound;
     }
-    match answer.get(..lines_end(answer)) {
-        Some(lines) if !lines.is_empty() => Mending::Lines(lines),
-        _ => Mending::Unknown,
+    match answer {
+        Some(reply) => lines_in(reply),
+        None => Mending::Unknown,
     }
+}
+
+/// What an answer of `mend` says of lines: all lines but the last, if they make the set safe.
+fn lines_in(reply: &Reply) -> Mending<'_> {
+    let Told::Mended(mended) = &reply.told else {
+        return Mending::Unknown;
+    };
+    if !mended.has_lines || mended.refusal.is_some() {
+        return Mending::Unknown;
+    }
+    Mending::Lines(above_last(reply.text.as_slice()))
+}
+
+/// A text without its last line.
+fn above_last(text: &[u8]) -> &[u8] {
+    let mut end = 0usize;
+    let mut next = 0usize;
+    for line in Lines::new(text) {
+        end = next;
+        next = next.saturating_add(line.text.len()).saturating_add(1);
+    }
+    text.get(..end).unwrap_or(text)
 }
 
 /// Says these lines for profiles.
@@ -96,29 +126,17 @@ pub(crate) fn say_lines(out: &mut String, source: &Source<'_>, text: &[u8]) -> S
     Ok(())
 }
 
-/// Where the lines for profiles end in an answer of `mend`. That is at its start if they don't make the set safe.
-fn lines_end(text: &[u8]) -> usize {
-    let mut end = 0usize;
-    for line in Lines::new(text) {
-        if line.text.starts_with(MENDED) {
-            return end;
-        }
-        end = end.saturating_add(line.text.len()).saturating_add(1);
-    }
-    0
-}
-
 /// A bundle of the profiles that an overlap or a breach names, and of the rule that may be broken. It is empty if not all lines of the
 /// input are there.
-fn named_bundle(source: &Source<'_>, told: &str) -> Result<Vec<u8>, AllocError> {
+fn named_bundle(source: &Source<'_>, clash: &Refusal) -> Result<Vec<u8>, AllocError> {
     let mut bundle = Vec::new(source.alloc());
     if !source.is_whole() {
         return Ok(bundle);
     }
-    for heading in named_profiles(source, told)? {
+    for heading in named_profiles(source, clash)? {
         push_lines(&mut bundle, source.section_lines(heading.section))?;
     }
-    if let Some((root, rule)) = broken_rule(source, told) {
+    if let Some((root, rule)) = broken_rule(source, clash) {
         bundle.extend_from_slice(b"%rules\n")?;
         push_line(&mut bundle, root)?;
         push_line(&mut bundle, rule)?;
@@ -146,18 +164,29 @@ fn push_line(bundle: &mut Vec<u8>, line: SourceLine<'_>) -> Said {
 pub(crate) fn say_plain_answer(
     out: &mut String,
     source: &Source<'_>,
-    told: &str,
-    answer: &[u8],
+    clash: Option<&Refusal>,
+    answer: Option<&Reply>,
 ) -> Said {
-    let plain = first_line(answer);
-    if plain.is_empty() {
+    let (Some(clash), Some(plain)) = (clash, answer) else {
+        return Ok(());
+    };
+    let line = first_line(plain.text.as_slice());
+    if line.is_empty() {
         return Ok(());
     }
-    writeln!(out, "hubsync: without --unison: {plain}")?;
-    if plain != "safe" {
+    writeln!(out, "hubsync: without --unison: {line}")?;
+    let Told::Yes = &plain.told else {
         return Ok(());
-    }
-    let named = named_profiles(source, told)?;
+    };
+    let named = named_profiles(source, clash)?;
     let more = wider_notes(source, named.as_slice())?;
     out.push_str(more.as_str())
+}
+
+/// The text of the first line, or nothing if it is no text.
+fn first_line(bytes: &[u8]) -> &str {
+    match Lines::new(bytes).next() {
+        Some(line) => str::from_utf8(line.text).unwrap_or(""),
+        None => "",
+    }
 }

@@ -1,16 +1,16 @@
 //! Remarks on hubsync's answers: the line of the input that an answer is about, and what to do.
 //!
-//! [`remark`] says, for the first bytes of an input and of the answer to it, what belongs on standard error.
+//! [`remark`] says, for the first bytes of an input and what was answered to it, what belongs on standard error.
 //!
 //! ```rust
-//! let remarks = remark(rt.alloc(), words, files, input, output, answers)?;
+//! let remarks = remark(rt.alloc(), words, files, input, told, answers)?;
 //! ```
 //!
 //! From `hubsync/src/served.rt`.
 //!
-//! The answer is read as it was written: what it names (a profile, a section, a line, a root, a rule) is looked up in the input
-//! (`hub_source`). So this crate takes part in no answer. It reads no profile but for the lines that an answer for Unison leaves
-//! out or refuses (`hub_preferences`), or has no room for (`hub_unison`).
+//! The answer comes as a value (`Told` of `hub_report`): what it names (a profile, a section, a line, a root, a rule) is looked up in the
+//! lines of the input (`hub_source`). So this crate takes part in no answer, and it reads none that was printed. It reads no profile but
+//! for the lines that an answer for Unison leaves out or refuses (`hub_preferences`), or has no room for (`hub_unison`).
 //!
 //! - Faults: `bundle` of the headings, `setting`, `value` and `pattern` of profiles and rules, `text` of states and certificates.
 //! - Refusals and the lines that make them so: `refusal`. What `reach`, `run` and the command line were asked: `asked`; the
@@ -35,10 +35,12 @@ mod pattern;
 mod refusal;
 mod remedy;
 mod setting;
+mod source_of;
 mod text;
 mod unison;
 mod value;
 mod words;
 
-pub use answer::{FirstBytes, Remarks, remark};
-pub use clash::{Answers, Questions, what_to_ask};
+pub use answer::{Remarks, remark};
+pub use clash::{Answers, Questions, Reply, what_to_ask};
+pub use source_of::FirstBytes;

@@ -1,8 +1,7 @@
 //! Answers that are lines for profiles.
 
-use crate::answer::FirstBytes;
-use crate::unison::{has_word, is_for_unison};
-use hub_text::Lines;
+use crate::unison::has_word;
+use hub_report::Told;
 
 /// Returns whether lines are asked for that make a set safe.
 pub(crate) fn is_mend(words: &[String]) -> bool {
@@ -10,41 +9,14 @@ pub(crate) fn is_mend(words: &[String]) -> bool {
 }
 
 /// Returns whether these lines are asked for in the bundle.
-fn is_bundle(words: &[String]) -> bool {
+pub(crate) fn is_bundle(words: &[String]) -> bool {
     has_word(words, "--bundle")
 }
 
-/// Returns whether an answer that begins with this line is a bundle with lines for its profiles.
-pub(crate) fn gives_bundle(words: &[String], first: &str) -> bool {
-    is_mend(words) && is_bundle(words) && !first.starts_with("fault: ")
-}
-
-/// The line that tells what was found: the last one below lines for profiles, else the first one.
-pub(crate) fn told_line<'a>(words: &[String], output: FirstBytes<'a>, first: &'a str) -> &'a str {
-    if !is_mend(words) || is_bundle(words) || !output.is_whole {
-        return first;
+/// Returns whether there are such lines in an answer.
+pub(crate) fn lines_found(told: &Told) -> bool {
+    match told {
+        Told::Mended(mended) => mended.has_lines,
+        _ => false,
     }
-    let mut told = first.as_bytes();
-    for line in Lines::new(output.bytes) {
-        told = line.text;
-    }
-    str::from_utf8(told).unwrap_or("")
-}
-
-/// Returns whether an answer that begins with this line gives lines by hubsync's own reading.
-pub(crate) fn has_plain_lines(
-    words: &[String],
-    input: FirstBytes<'_>,
-    output: FirstBytes<'_>,
-    first: &str,
-) -> bool {
-    if !is_mend(words) || is_for_unison(words) || first.starts_with("fault: ") {
-        return false;
-    }
-    if is_bundle(words) {
-        return output.bytes != input.bytes;
-    }
-    let mut lines = Lines::new(output.bytes);
-    lines.next();
-    !output.is_whole || lines.next().is_some()
 }

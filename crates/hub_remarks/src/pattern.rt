@@ -1,6 +1,7 @@
 //! Remarks on patterns.
 
-use crate::remedy::{remedy_of, say_nearest};
+use crate::remedy::say_nearest;
+use hub_glob::GlobFault;
 use hub_source::{Said, say, trimmed};
 use hub_text::first_word;
 use std::alloc::Global;
@@ -8,66 +9,47 @@ use std::alloc::Global;
 /// The kinds of patterns.
 const KINDS: &[&str] = &["Name", "Path", "BelowPath"];
 
-/// What to do about the faults of a pattern.
-const REMEDIES: &[(&str, &str)] = &[
-    (
-        "RegexLeftOut",
-        "Regex is left out: write Name, Path or BelowPath (docs/UNISON.md)",
-    ),
-    (
-        "EmptyPattern",
-        "the pattern is missing after the kind: write it as in Name *.tmp",
-    ),
-    (
-        "NestedBraces",
-        "braces don't stand in braces: write a line for each choice",
-    ),
-    (
-        "BadRange",
-        "a set has members, and a range goes upwards in ASCII, as [a-z]",
-    ),
-    (
-        "NegatedSet",
-        "a set says which characters match: [^..] and [!..] are left out",
-    ),
-    (
-        "BadEscape",
-        "only some characters follow a \\: write the character without it",
-    ),
-    (
-        "SlashInName",
-        "a Name pattern has no /: write Path or BelowPath",
-    ),
-    (
-        "SlashInSet",
-        "no set matches a /: take it out of the brackets",
-    ),
-    (
-        "LeadingSlash",
-        "a pattern's path is below the roots: write it without the / in front",
-    ),
-    ("TooLong", "a pattern has at most 200 characters"),
-    (
-        "TooManyChoices",
-        "a pattern has at most 64 choices in braces: write more lines",
-    ),
-];
-
 /// Says what is wrong with the pattern of a line.
-pub(crate) fn say_bad_pattern(out: &mut String, alloc: Global, line: &str, fault: &str) -> Said {
+pub(crate) fn say_bad_pattern(
+    out: &mut String,
+    alloc: Global,
+    line: &str,
+    fault: GlobFault,
+) -> Said {
     let (_, value) = line.split_once('=').unwrap_or(("", line));
     match fault {
-        "NoKind" => say_no_kind(out, alloc, first_word(trimmed(value)).0),
-        "OpenBracket" => say_open(out, line, '['),
-        "OpenBrace" => say_open(out, line, '{'),
-        _ => say(
-            out,
-            remedy_of(
-                REMEDIES,
-                fault,
-                "docs/UNISON.md says how hubsync reads patterns",
-            ),
-        ),
+        GlobFault::NoKind => say_no_kind(out, alloc, first_word(trimmed(value)).0),
+        GlobFault::OpenBracket => say_open(out, line, '['),
+        GlobFault::OpenBrace => say_open(out, line, '{'),
+        _ => say(out, remedy(fault)),
+    }
+}
+
+/// What to do about a fault of a pattern, whatever the line says.
+fn remedy(fault: GlobFault) -> &'static str {
+    match fault {
+        GlobFault::RegexLeftOut => {
+            "Regex is left out: write Name, Path or BelowPath (docs/UNISON.md)"
+        }
+        GlobFault::EmptyPattern => {
+            "the pattern is missing after the kind: write it as in Name *.tmp"
+        }
+        GlobFault::NestedBraces => "braces don't stand in braces: write a line for each choice",
+        GlobFault::BadRange => "a set has members, and a range goes upwards in ASCII, as [a-z]",
+        GlobFault::NegatedSet => "a set says which characters match: [^..] and [!..] are left out",
+        GlobFault::BadEscape => {
+            "only some characters follow a \\: write the character without it"
+        }
+        GlobFault::SlashInName => "a Name pattern has no /: write Path or BelowPath",
+        GlobFault::SlashInSet => "no set matches a /: take it out of the brackets",
+        GlobFault::LeadingSlash => {
+            "a pattern's path is below the roots: write it without the / in front"
+        }
+        GlobFault::TooLong => "a pattern has at most 200 characters",
+        GlobFault::TooManyChoices => {
+            "a pattern has at most 64 choices in braces: write more lines"
+        }
+        _ => "docs/UNISON.md says how hubsync reads patterns",
     }
 }
 

@@ -3,24 +3,59 @@
 use crate::clash::{Mending, say_lines};
 use crate::nested::say_other_nested;
 use hub_notes::{has_no_path, is_rule, is_same_root, line_above};
+use hub_profile::Verb;
+use hub_report::Refusal;
 use hub_source::{Said, Source, SourceLine, name_of, say, say_placed};
 use std::alloc::AllocError;
 
-/// Says which lines make two profiles overlap, and what to do: `WRITER writes PATH at PLACE, OTHER reaches PATH`.
-pub(crate) fn say_overlap(
+/// Says which lines a refusal is about, and what to do.
+pub(crate) fn say_refusal(
     out: &mut String,
     source: &Source<'_>,
-    text: &str,
+    refusal: &Refusal,
     mending: Mending<'_>,
 ) -> Said {
-    let Some((before, path)) = text.rsplit_once(" reaches ") else {
-        return Ok(());
-    };
-    for line in source.lines() {
-        if is_overlapping(line, before) {
-            say_kept(out, source, line.section, path)?;
+    match refusal {
+        Refusal::Overlap { path, .. } => {
+            say_overlap(out, source, refusal, path.as_str(), mending)
         }
+        Refusal::Breach {
+            rule,
+            verb,
+            path,
+            root,
+            ..
+        } => {
+            say_rule(out, source, *rule)?;
+            say_named(out, source, refusal, path.as_str())?;
+            say_keeping(out, source, *verb, root.as_str(), mending)
+        }
+        Refusal::TooManyProfiles => say_too_many_profiles(out, source),
+        Refusal::SameName(name) => say_same_name(out, source, name.text()),
+        Refusal::NestedRoots([first, second]) => {
+            say_nested(out, source, first.as_str(), second.as_str())
+        }
+        Refusal::TooManyCharacters => {
+            say(out, "paths and patterns may have 512 different characters")
+        }
+        Refusal::TooManySpots => say(
+            out,
+            "a profile's paths and patterns have at most 4,096 beginnings",
+        ),
+        Refusal::TooLarge => say(out, "nothing is known: fewer * in patterns would help"),
+        Refusal::BadCertificates => say_certificates(out, source),
     }
+}
+
+/// Says which lines make two profiles overlap at a path, and what to do.
+fn say_overlap(
+    out: &mut String,
+    source: &Source<'_>,
+    refusal: &Refusal,
+    path: &str,
+    mending: Mending<'_>,
+) -> Said {
+    say_named(out, source, refusal, path)?;
     match mending {
         Mending::Lines(lines) => {
             say(
@@ -40,48 +75,35 @@ pub(crate) fn say_overlap(
     }
 }
 
-/// The headings of the profiles that an answer names: `overlap: WRITER writes PATH at PLACE, OTHER reaches PATH`, or
-/// `breach: PROFILE may VERB PATH at ROOT, rule NUMBER`.
+/// Says which lines give a path to the profiles that a refusal names.
+fn say_named(out: &mut String, source: &Source<'_>, refusal: &Refusal, path: &str) -> Said {
+    for heading in named_profiles(source, refusal)? {
+        say_kept(out, source, heading.section, path)?;
+    }
+    Ok(())
+}
+
+/// The headings of the profiles that a refusal names, in the order of the input.
 pub(crate) fn named_profiles<'a>(
     source: &Source<'a>,
-    answer: &str,
+    refusal: &Refusal,
 ) -> Result<Vec<SourceLine<'a>>, AllocError> {
     let mut named = Vec::new(source.alloc());
-    for line in source.lines() {
-        if is_named(line, answer) {
-            named.push(*line)?;
+    for (number, heading) in source.profiles()?.iter().enumerate() {
+        if is_named(refusal, number) {
+            named.push(*heading)?;
         }
     }
     Ok(named)
 }
 
-/// Returns whether a line is the heading of a profile that an answer names.
-fn is_named(line: &SourceLine<'_>, answer: &str) -> bool {
-    if let Some(text) = answer.strip_prefix("overlap: ") {
-        return match text.rsplit_once(" reaches ") {
-            Some((before, _)) => is_overlapping(line, before),
-            None => false,
-        };
+/// Returns whether a refusal names the profile of that number.
+fn is_named(refusal: &Refusal, number: usize) -> bool {
+    match refusal {
+        Refusal::Overlap { writer, other, .. } => number == *writer || number == *other,
+        Refusal::Breach { profile, .. } => number == *profile,
+        _ => false,
     }
-    let (Some(text), Some(name)) = (answer.strip_prefix("breach: "), line.profile()) else {
-        return false;
-    };
-    text.strip_prefix(name)
-        .is_some_and(|rest| rest.starts_with(" may "))
-}
-
-/// Returns whether a line is the heading of one of the two profiles in `WRITER writes PATH at PLACE, OTHER`.
-fn is_overlapping(line: &SourceLine<'_>, text: &str) -> bool {
-    let Some(name) = line.profile() else {
-        return false;
-    };
-    let writes = text
-        .strip_prefix(name)
-        .is_some_and(|rest| rest.starts_with(" writes "));
-    writes
-        || text
-            .strip_suffix(name)
-            .is_some_and(|rest| rest.ends_with(", "))
 }
 
 /// Says which line gives a profile a path.
@@ -99,47 +121,11 @@ pub(crate) fn say_kept(out: &mut String, source: &Source<'_>, section: usize, pa
     }
 }
 
-/// Says which rule a profile may break, and what to do: `PROFILE may VERB PATH at ROOT, rule NUMBER`.
-pub(crate) fn say_breach(
-    out: &mut String,
-    source: &Source<'_>,
-    text: &str,
-    mending: Mending<'_>,
-) -> Said {
-    let Some((before, number)) = text.rsplit_once(", rule ") else {
-        return Ok(());
-    };
-    say_rule(out, source, number)?;
-    match before.rsplit_once(" at ") {
-        Some((change, root)) => say_change(out, source, change, root, mending),
-        None => Ok(()),
-    }
-}
-
-/// Says which lines lead to a change at a root, and which ones forbid it: `PROFILE may VERB PATH`.
-fn say_change(
-    out: &mut String,
-    source: &Source<'_>,
-    change: &str,
-    root: &str,
-    mending: Mending<'_>,
-) -> Said {
-    for line in source.lines() {
-        if let Some(name) = line.profile() {
-            if let Some((verb, path)) = verb_and_path(name, change) {
-                say_kept(out, source, line.section, path)?;
-                return say_keeping(out, source, verb, root, mending);
-            }
-        }
-    }
-    Ok(())
-}
-
 /// Says which lines would keep a rule.
 fn say_keeping(
     out: &mut String,
     source: &Source<'_>,
-    verb: &str,
+    verb: Verb,
     root: &str,
     mending: Mending<'_>,
 ) -> Said {
@@ -154,29 +140,19 @@ fn say_keeping(
 }
 
 /// Says which line is the rule of that number.
-fn say_rule(out: &mut String, source: &Source<'_>, number: &str) -> Said {
-    let Ok(number) = number.parse::<usize>() else {
-        return Ok(());
-    };
+fn say_rule(out: &mut String, source: &Source<'_>, number: usize) -> Said {
     match rule_line(source, number) {
         Some(line) => say_placed(out, source, &line),
         None => Ok(()),
     }
 }
 
-/// The verb and the path of `NAME may VERB PATH`.
-fn verb_and_path<'t>(name: &str, text: &'t str) -> Option<(&'t str, &'t str)> {
-    text.strip_prefix(name)?
-        .strip_prefix(" may ")?
-        .split_once(' ')
-}
-
 /// Says which bar forbids a change.
-fn say_bar(out: &mut String, verb: &str, root: &str) -> Said {
+fn say_bar(out: &mut String, verb: Verb, root: &str) -> Said {
     let bar = match verb {
-        "create" => "nocreation",
-        "update" => "noupdate",
-        _ => "nodeletion",
+        Verb::Create => "nocreation",
+        Verb::Update => "noupdate",
+        Verb::Delete => "nodeletion",
     };
     writeln!(
         out,
@@ -187,12 +163,11 @@ fn say_bar(out: &mut String, verb: &str, root: &str) -> Said {
 /// The rule that a breach names, and the line of its root.
 pub(crate) fn broken_rule<'a>(
     source: &Source<'a>,
-    told: &str,
+    refusal: &Refusal,
 ) -> Option<(SourceLine<'a>, SourceLine<'a>)> {
-    let (_, number) = told.strip_prefix("breach: ")?.rsplit_once(", rule ")?;
-    let rule = match number.parse::<usize>() {
-        Ok(number) => rule_line(source, number)?,
-        Err(_) => return None,
+    let rule = match refusal {
+        Refusal::Breach { rule, .. } => rule_line(source, *rule)?,
+        _ => return None,
     };
     Some((root_above(source, rule)?, rule))
 }
@@ -221,25 +196,6 @@ fn rule_line<'a>(source: &Source<'a>, number: usize) -> Option<SourceLine<'a>> {
         }
     }
     None
-}
-
-/// Says what to do about a set that is refused.
-pub(crate) fn say_refused(out: &mut String, source: &Source<'_>, text: &str) -> Said {
-    if let Some(name) = text.strip_prefix("SameName ") {
-        return say_same_name(out, source, name);
-    }
-    if let Some(roots) = text.strip_prefix("NestedRoots ") {
-        return say_nested(out, source, roots);
-    }
-    match text {
-        "TooManyProfiles" => say_too_many_profiles(out, source),
-        "TooManyCharacters" => say(out, "paths and patterns may have 512 different characters"),
-        "TooManySpots" => say(
-            out,
-            "a profile's paths and patterns have at most 4,096 beginnings",
-        ),
-        _ => say_certificates(out, source),
-    }
 }
 
 /// Says which headings, or which files, have the same name.
@@ -274,11 +230,8 @@ fn say_too_many_profiles(out: &mut String, source: &Source<'_>) -> Said {
     )
 }
 
-/// Says where the roots of `ROOT and ROOT` stand, and what to do about them.
-fn say_nested(out: &mut String, source: &Source<'_>, roots: &str) -> Said {
-    let Some((first, second)) = roots.split_once(" and ") else {
-        return Ok(());
-    };
+/// Says where two roots stand of which one lies within the other, and what to do about them.
+fn say_nested(out: &mut String, source: &Source<'_>, first: &str, second: &str) -> Said {
     say_root(out, source, first)?;
     say_root(out, source, second)?;
     say_other_nested(out, source, first, second)?;

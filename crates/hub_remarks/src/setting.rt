@@ -1,11 +1,10 @@
 //! Remarks on faults of profiles and rules.
 
 use crate::pattern::say_bad_pattern;
-use crate::remedy::{remedy_of, say_nearest};
+use crate::remedy::say_nearest;
 use crate::value::{say_bad_path, say_too_many};
-use hub_source::{
-    FaultPlace, LinePlace, Said, Source, SourceLine, odd_encoding, say, say_line, trimmed,
-};
+use hub_profile::{Fault, ProfileFault};
+use hub_source::{LinePlace, Said, Source, SourceLine, odd_encoding, say, say_line, trimmed};
 use hub_text::first_word;
 use std::alloc::Global;
 
@@ -52,45 +51,33 @@ const WITHOUT_EFFECT: &str = "\
     numericids repeat retry rsync servercmd showarchive sortbysize sortfirst sortlast \
     sortnewfirst sshargs sshcmd stream watch xferbycopying";
 
-/// What to do about the faults of lines that have their own.
-const REMEDIES: &[(&str, &str)] = &[
-    (
-        "IncludeLeftOut",
-        "write that file's lines in its place; in a .prf file, with --unison, one space follows include",
-    ),
-    (
-        "LeftOutValue",
-        "hubsync has no times: leave the line out of its copy, and it assumes more writes",
-    ),
-    (
-        "RuleBeforeRoot",
-        "a rule is for the root line above it: write root = .. before it",
-    ),
-    ("NoArrow", "write PATTERN -> ROOT"),
-];
-
-/// Says what to do about a fault of a profile, or of the rules.
+/// Says what to do about a fault of a profile, or of the rules, by the section.
 pub(crate) fn say_setting_fault(
     out: &mut String,
     source: &Source<'_>,
-    place: FaultPlace<'_>,
+    section: usize,
+    fault: &ProfileFault,
     is_of_rules: bool,
 ) -> Said {
-    if place.number == 0 {
-        return say_whole_fault(out, source, place);
+    if fault.line == 0 {
+        return say_whole_fault(out, source, section, &fault.fault);
     }
-    match source.line(place.section, place.number) {
-        Some(line) => say_fault_on(out, source, &line, place.fault, is_of_rules),
+    match source.line(section, fault.line) {
+        Some(line) => say_fault_on(out, source, &line, &fault.fault, is_of_rules),
         None => Ok(()),
     }
 }
 
-/// The line that a fault of a profile is of: the first one that is not UTF-8, if that is the fault.
-pub(crate) fn fault_line<'a>(source: &Source<'a>, place: FaultPlace<'_>) -> Option<SourceLine<'a>> {
-    if place.fault == "NotUtf8" {
-        return unread_line(source, place.section);
+/// The line that a fault of a section is of: the first one that is not UTF-8, if that is the fault.
+pub(crate) fn fault_line<'a>(
+    source: &Source<'a>,
+    section: usize,
+    fault: &ProfileFault,
+) -> Option<SourceLine<'a>> {
+    match fault.fault {
+        Fault::NotUtf8 => unread_line(source, section),
+        _ => source.line(section, fault.line),
     }
-    source.line(place.section, place.number)
 }
 
 /// Says which line of a profile or of the rules has a fault, and what to do about it.
@@ -98,10 +85,10 @@ pub(crate) fn say_fault_on(
     out: &mut String,
     source: &Source<'_>,
     line: &SourceLine<'_>,
-    fault: &str,
+    fault: &Fault,
     is_of_rules: bool,
 ) -> Said {
-    if fault == "NotUtf8" {
+    if let Fault::NotUtf8 = fault {
         return say_unread(out, line);
     }
     say_line(out, source.alloc(), line)?;
@@ -112,21 +99,20 @@ pub(crate) fn say_fault_on(
 }
 
 /// Says what to do about a fault that is of no line.
-fn say_whole_fault(out: &mut String, source: &Source<'_>, place: FaultPlace<'_>) -> Said {
+fn say_whole_fault(out: &mut String, source: &Source<'_>, section: usize, fault: &Fault) -> Said {
     if !source.is_whole() {
         return Ok(());
     }
-    let section = place.section;
-    match place.fault {
-        "NotUtf8" => say_not_utf8(out, source, section),
-        "RootCount" => say_roots(
+    match fault {
+        Fault::NotUtf8 => say_not_utf8(out, source, section),
+        Fault::RootCount => say_roots(
             out,
             source,
             section,
             "a profile has two roots, and this one has",
         ),
-        "SameRoots" => say_roots(out, source, section, "the two roots are one folder:"),
-        "RootsNested" => say_roots(out, source, section, "no root lies within the other:"),
+        Fault::SameRoots => say_roots(out, source, section, "the two roots are one folder:"),
+        Fault::RootsNested => say_roots(out, source, section, "no root lies within the other:"),
         _ => Ok(()),
     }
 }
@@ -136,36 +122,41 @@ fn say_line_fault(
     out: &mut String,
     source: &Source<'_>,
     line: &SourceLine<'_>,
-    fault: &str,
+    fault: &Fault,
     is_of_rules: bool,
 ) -> Said {
     let alloc = source.alloc();
-    let (kind, detail) = fault.split_once(' ').unwrap_or((fault, ""));
     let name = line.name();
-    match kind {
-        "NoEquals" => say_no_equals(out, trimmed(line.text())),
-        "UnknownPreference" => say_unknown(out, alloc, name, is_of_rules),
-        "BadPath" => say_bad_path(out, line.value(), detail),
-        "BadPattern" => say_bad_pattern(out, alloc, line.text(), detail),
-        "Repeated" => say_repeated(out, source, line.section, name),
-        "TooMany" => say_too_many(out, name),
-        "NotARoot" => say_roots(
+    match fault {
+        Fault::NoEquals => say_no_equals(out, trimmed(line.text())),
+        Fault::UnknownPreference(_) => say_unknown(out, alloc, name, is_of_rules),
+        Fault::BadPath(fault) => say_bad_path(out, line.value(), *fault),
+        Fault::BadPattern(fault) => say_bad_pattern(out, alloc, line.text(), *fault),
+        Fault::Repeated => say_repeated(out, source, line.section, name),
+        Fault::TooMany => say_too_many(out, name),
+        Fault::NotARoot => say_roots(
             out,
             source,
             line.section,
             "write one of the two roots, which are",
         ),
-        _ => say(out, remedy(kind)),
+        _ => say(out, remedy(fault)),
     }
 }
 
 /// What to do about a fault, whatever the line says.
-fn remedy(fault: &str) -> &'static str {
-    remedy_of(
-        REMEDIES,
-        fault,
-        "docs/UNISON.md says how hubsync reads a line",
-    )
+fn remedy(fault: &Fault) -> &'static str {
+    match fault {
+        Fault::IncludeLeftOut => {
+            "write that file's lines in its place; in a .prf file, with --unison, one space follows include"
+        }
+        Fault::LeftOutValue => {
+            "hubsync has no times: leave the line out of its copy, and it assumes more writes"
+        }
+        Fault::RuleBeforeRoot => "a rule is for the root line above it: write root = .. before it",
+        Fault::NoArrow => "write PATTERN -> ROOT",
+        _ => "docs/UNISON.md says how hubsync reads a line",
+    }
 }
 
 /// Says which line is not UTF-8.

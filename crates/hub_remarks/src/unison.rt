@@ -1,12 +1,14 @@
 //! Remarks on answers about what Unison may do by the profiles.
 
-use crate::clash::is_clash;
 use crate::limit::cut_lines;
 use crate::setting::{fault_line, say_fault_on};
+use crate::source_of::profile_section;
+use hub_bundle::SectionFault;
 use hub_glob::PATTERN_CHARACTERS;
 use hub_preferences::{Finding, Outcome, findings};
 use hub_profile::{Fault, PATTERN_LINES};
-use hub_source::{Said, Source, place_in_profile, shown};
+use hub_report::{FaultyInput, Refusal, Told};
+use hub_source::{Said, Source, shown};
 use std::alloc::{AllocError, Global};
 use std::collections::BTreeSet;
 
@@ -81,49 +83,48 @@ fn say_uncounted(out: &mut String, source: &Source<'_>, input: &[u8], listing: L
     say_cut(out, source, input, listing)
 }
 
-/// Says what more belongs to another answer for Unison, by its first line. An overlap or a breach may come of the wider reading
+/// Says what more belongs to another answer for Unison. An overlap or a breach that it begins with may come of the wider reading
 /// alone. Of a fault of a profile, that is what to do about all other lines that are refused. Both get which lines don't count.
 pub(crate) fn say_more(
     out: &mut String,
     source: &Source<'_>,
     input: &[u8],
-    first: &str,
+    told: &Told,
+    clash: Option<&Refusal>,
     listing: Listing,
 ) -> Said {
-    if is_clash(first) {
+    if clash.is_some() {
         out.push_str(
             "hubsync: more counts with --unison than may happen: compare the answer without it\n",
         )?;
         return say_uncounted(out, source, input, listing);
     }
-    match first.strip_prefix("fault: profile ") {
-        Some(fault) if source.is_whole() => {
-            let named = named_line(source, fault);
-            say_all(out, source, input, named, listing)
+    match told {
+        Told::Faulty(FaultyInput::BadSection(fault)) if source.is_whole() => {
+            say_all(out, source, input, fault, listing)
         }
         _ => Ok(()),
     }
 }
 
-/// Says what to do about the lines that are refused, but for the one of that number, and which lines don't count.
+/// Says what to do about the lines that are refused, but for the one that a fault of a profile is of, and which lines don't count.
 fn say_all(
     out: &mut String,
     source: &Source<'_>,
     input: &[u8],
-    named: usize,
+    fault: &SectionFault,
     listing: Listing,
 ) -> Said {
+    let SectionFault::OfProfile { profile, fault } = fault else {
+        return Ok(());
+    };
+    let named = match profile_section(source, profile.text()) {
+        Some(section) => fault_line(source, section, fault).map_or(0, |line| line.at),
+        None => 0,
+    };
     let findings = findings_once(source, input, named)?;
     say_refused(out, source, findings.as_slice(), listing)?;
     say_left_out(out, source, findings.as_slice(), listing)
-}
-
-/// The number in the input of the line that the fault `NAME line NUMBER: FAULT` is of, or else 0.
-fn named_line(source: &Source<'_>, text: &str) -> usize {
-    match place_in_profile(source, text) {
-        Some(place) => fault_line(source, place).map_or(0, |line| line.at),
-        None => 0,
-    }
 }
 
 /// The findings of an input, but for the line of that number. A line of a file that several profiles include is found once.
@@ -186,9 +187,8 @@ fn say_refused(
 
 /// Says what to do about the line of that number, which is refused for this fault.
 fn say_refused_line(out: &mut String, source: &Source<'_>, number: usize, fault: &Fault) -> Said {
-    let name = format!(in source.alloc(); "{fault}")?;
     match source.line_at(number) {
-        Some(line) => say_fault_on(out, source, &line, name.as_str(), false),
+        Some(line) => say_fault_on(out, source, &line, fault, false),
         None => Ok(()),
     }
 }

@@ -1,35 +1,29 @@
 //! Remarks on values that are no paths, and on lines too many.
 
-use crate::remedy::remedy_of;
+use hub_path::PathFault;
 use hub_source::{Said, say};
 
-/// What to do about the faults of a path.
-const PATH_REMEDIES: &[(&str, &str)] = &[
-    ("Empty", "a folder's path is missing"),
-    ("DotName", "write the path without . and .."),
-    ("BadCharacter", "a path has no CR and no NUL"),
-    ("NameTooLong", "a name between two / has at most 255 bytes"),
-    ("TooDeep", "a path has at most 64 names"),
-    ("NotAbsolute", "a root begins with /"),
-];
-
 /// Says what is wrong with the text of a path or a root.
-pub(crate) fn say_bad_path(out: &mut String, value: &str, fault: &str) -> Said {
+pub(crate) fn say_bad_path(out: &mut String, value: &str, fault: PathFault) -> Said {
     match fault {
-        "RemoteRoot" => say_remote(out, value),
-        "LeadingSlash" => say_leading_slash(out, value),
-        "EmptyName" => say_twice(out, value),
+        PathFault::RemoteRoot => say_remote(out, value),
+        PathFault::LeadingSlash => say_leading_slash(out, value),
+        PathFault::EmptyName => say_twice(out, value),
         _ => say(out, path_remedy(fault)),
     }
 }
 
 /// What to do about a fault of a path, whatever the path is.
-pub(crate) fn path_remedy(fault: &str) -> &'static str {
-    remedy_of(
-        PATH_REMEDIES,
-        fault,
-        "docs/REFERENCE.md says what a path is",
-    )
+pub(crate) fn path_remedy(fault: PathFault) -> &'static str {
+    match fault {
+        PathFault::Empty => "a folder's path is missing",
+        PathFault::DotName => "write the path without . and ..",
+        PathFault::BadCharacter => "a path has no CR and no NUL",
+        PathFault::NameTooLong => "a name between two / has at most 255 bytes",
+        PathFault::TooDeep => "a path has at most 64 names",
+        PathFault::NotAbsolute => "a root begins with /",
+        _ => "docs/REFERENCE.md says what a path is",
+    }
 }
 
 /// Says how to write a path that begins with `/`.

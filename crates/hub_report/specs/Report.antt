@@ -23,7 +23,7 @@ abbrev pub text_of : Report → List ℕ
 text_of (Faulty f) = input.text_of f
 text_of (Reach a) = reach.text_of a
 text_of NoState = codes "fault: no state\n"
-text_of (Refused line) = string_bytes line
+text_of (Refused line refusal) = string_bytes line
 text_of (Verdict v) = verdict.text_of v
 text_of (Clashes a) = clashes.text_of a
 text_of (Run a) = run.text_of a
@@ -43,7 +43,7 @@ abbrev pub status_of : Report → ℕ
 status_of (Faulty f) = 2
 status_of (Reach a) = reach.status_of a
 status_of NoState = 2
-status_of (Refused line) = 1
+status_of (Refused line refusal) = 1
 status_of (Verdict v) = 0
 status_of (Clashes a) = clashes.status_of a
 status_of (Run a) = run.status_of a
@@ -71,7 +71,7 @@ says_read_failed r = some_failed (unread_by r)
 
 -- A set is refused for that fault, by the fault's line. Out of memory is told by itself.
 abbrev pub TellsRefusal : Members → CheckFault → Report → Type 0
-TellsRefusal S e (Refused line) = (e ≢ fault.OutOfMemory) × (string_bytes line ≡ refusal_line S e)
+TellsRefusal S e (Refused line refusal) = (e ≢ fault.OutOfMemory) × (string_bytes line ≡ refusal_line S e)
 TellsRefusal S e OutOfMemory = ⊤
 TellsRefusal S e _ = ⊥
 

@@ -3,16 +3,16 @@ ghost use Rattle.std.specs.Prelude.{◌≡◌, IfOk};
 ghost use Rattle.hub_report.specs.Blocks.{bytes_in};
 ghost use Rattle.hub_report.specs.ClashesAnswer as spec;
 
-use crate::blocks::Blocks;
 use crate::graph::Graph;
 use crate::rounds::Cut;
+use crate::told::{Answer, Refusal, Told};
 use std::alloc::{AllocError, Global};
 
 /// What clashes in a set, or its rounds.
 #[derive(Drop)]
 pub enum ClashesAnswer {
-    /// The lines of all that clashes in the set, and of all that breaks a rule. There is at least one.
-    Lines(String),
+    /// The lines of all that clashes in the set, and of all that breaks a rule, and what the first one says. There is at least one.
+    Lines(String, Refusal),
     /// The same, as a graph.
     Graph(Graph),
     /// The rounds of the set.
@@ -25,7 +25,7 @@ impl ClashesAnswer {
         ensures { result ≡ spec.status_of self.now }
     {
         match self {
-            ClashesAnswer::Lines(_) => 1,
+            ClashesAnswer::Lines(..) => 1,
             ClashesAnswer::Graph(graph) => { if graph.safe { 0 } else { 1 } }
             ClashesAnswer::Cut(cut) => { if cut.decided { 0 } else { 1 } }
         }
@@ -37,18 +37,22 @@ impl ClashesAnswer {
     {
         match self {
             ClashesAnswer::Cut(cut) => cut.undecided.as_str(),
-            ClashesAnswer::Lines(_) | ClashesAnswer::Graph(_) => "",
+            ClashesAnswer::Lines(..) | ClashesAnswer::Graph(_) => "",
         }
     }
 
     /// The lines, the graph, or the text of the rounds.
-    pub(crate) fn into_text(self, alloc: Global) -> Result<Blocks, AllocError>
-        ensures { IfOk result (λ t. bytes_in t ≡ spec.text_of self) }
+    pub(crate) fn into_answer(self, alloc: Global) -> Result<Answer, AllocError>
+        ensures { IfOk result (λ a. bytes_in a.text ≡ spec.text_of self) }
     {
         match self {
-            ClashesAnswer::Lines(lines) => Blocks::new(alloc, lines.into_bytes()),
-            ClashesAnswer::Graph(graph) => Blocks::new(alloc, graph.text.into_bytes()),
-            ClashesAnswer::Cut(cut) => Blocks::new(alloc, cut.text.into_bytes()),
+            ClashesAnswer::Lines(lines, first) => {
+                Answer::of_bytes(alloc, lines.into_bytes(), Told::Refused(first))
+            }
+            ClashesAnswer::Graph(graph) => {
+                Answer::of_bytes(alloc, graph.text.into_bytes(), Told::Yes)
+            }
+            ClashesAnswer::Cut(cut) => Answer::of_bytes(alloc, cut.text.into_bytes(), Told::Yes),
         }
     }
 }

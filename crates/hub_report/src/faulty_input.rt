@@ -8,6 +8,7 @@ use crate::blocks::Blocks;
 use crate::faults::{
     bundle_fault_name, fault_line, input_fault_name, profile_fault_name, state_fault_name,
 };
+use crate::told::{Answer, Told};
 use hub_bundle::{BundleLineFault, InputFault, SectionFault};
 use hub_path::Name;
 use hub_profile::ProfileFault;
@@ -25,18 +26,27 @@ pub enum FaultyInput {
 }
 
 impl FaultyInput {
+    /// The line of the fault, and the fault.
+    pub(crate) fn into_answer(self, alloc: Global) -> Result<Answer, AllocError>
+        ensures { IfOk result (λ a. bytes_in a.text ≡ spec.text_of self) }
+    {
+        let text = self.text(alloc)?;
+        let told = Told::Faulty(self);
+        Ok(Answer { text, told })
+    }
+
     /// The line of the fault.
-    pub(crate) fn into_text(self, alloc: Global) -> Result<Blocks, AllocError>
-        ensures { IfOk result (λ t. bytes_in t ≡ spec.text_of self) }
+    fn text(&self, alloc: Global) -> Result<Blocks, AllocError>
+        ensures { IfOk result (λ t. bytes_in t ≡ spec.text_of self.now) }
     {
         match self {
             FaultyInput::Unread(fault) => {
-                fault_line(alloc, "bundle line 0", input_fault_name(fault))
+                fault_line(alloc, "bundle line 0", input_fault_name(*fault))
             }
             FaultyInput::BadBundle(fault) => {
                 fault_line_in(alloc, "bundle", fault.line, bundle_fault_name(fault.fault))
             }
-            FaultyInput::BadSection(fault) => section_fault_line(alloc, &fault),
+            FaultyInput::BadSection(fault) => section_fault_line(alloc, fault),
         }
     }
 }

@@ -9,16 +9,22 @@
 //! - [`lines_of_clashes`] are the lines of all that clashes in a set, and [`text_of_rounds`] is the text of its rounds.
 //! - [`graph_of_clashes`] is the text of a [`Graph`] of what clashes, for Graphviz.
 //! - [`undecided_pairs`] are the lines for standard error: which two profiles were too large to decide.
-//! - [`Blocks`] is the text of an answer, in blocks.
+//! - [`Blocks`] is the text of an answer, in blocks. [`Told`] is what the answer tells, as a value for remarks on it.
 //!
 //! ```rust
 //! let report = report_on(rt, alloc, asked, input, progress);
 //! progress.over();
 //! let status = report.status();
 //! name_undecided(rt, report.undecided());
-//! match report.into_text(alloc) {
-//!     Ok(text) => write_text(&text, status, output),
-//!     Err(_) => write_out_of_memory(output),
+//! match report.into_answer(alloc) {
+//!     Ok(answer) => Served {
+//!         status: write_text(&answer.text, status, output),
+//!         told: answer.told,
+//!     },
+//!     Err(_) => Served {
+//!         status: write_out_of_memory(output),
+//!         told: Told::Other,
+//!     },
 //! }
 //! ```
 //!
@@ -35,12 +41,12 @@
 //!
 //! # What is proved
 //!
-//! `status` and `into_text` return the defined status and text of each answer, and each text ends with LF. The name of a fault is
+//! `status` and `into_answer` return the defined status and text of each answer, and each text ends with LF. The name of a fault is
 //! written by a case for each fault, so no line goes on after it.
 //!
 //! # What is not
 //!
-//! When an answer is right. What `undecided_pairs` gives goes to standard error, which no contract sees.
+//! When an answer is right. What [`Told`] says of it. What `undecided_pairs` gives goes to standard error, which no contract sees.
 #![tactic(auto)]
 
 mod blocks;
@@ -60,6 +66,7 @@ mod rounds;
 mod rounds_run;
 mod run;
 mod run_answer;
+mod told;
 mod undecided;
 mod verdict;
 
@@ -76,5 +83,6 @@ pub use rounds::{Cut, text_of_rounds};
 pub use rounds_run::RoundsRun;
 pub use run::{Run, RunError};
 pub use run_answer::RunAnswer;
+pub use told::{Answer, NotRun, Refusal, Told, ToldMended};
 pub use undecided::undecided_pairs;
 pub use verdict::Verdict;

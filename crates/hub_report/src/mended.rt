@@ -1,6 +1,10 @@
 //! The answer with lines that make a set safe.
-ghost use Rattle.std.specs.Prelude.{◌≡◌};
+ghost use Rattle.std.specs.Prelude.{◌≡◌, IfOk};
+ghost use Rattle.hub_report.specs.Blocks.{bytes_in};
 ghost use Rattle.hub_report.specs.Report.{mended_status};
+
+use crate::told::{Answer, Told, ToldMended};
+use std::alloc::{AllocError, Global};
 
 /// Lines that were found for profiles, and whether the set is safe with them.
 #[derive(Drop)]
@@ -9,6 +13,8 @@ pub struct Mended {
     pub text: Vec<u8>,
     /// Whether the set with the lines is safe.
     pub safe: bool,
+    /// What the lines tell.
+    pub told: ToldMended,
 }
 
 impl Mended {
@@ -17,5 +23,12 @@ impl Mended {
         ensures { result ≡ mended_status self.now.safe }
     {
         if self.safe { 0 } else { 1 }
+    }
+
+    /// The text, and what it tells.
+    pub(crate) fn into_answer(self, alloc: Global) -> Result<Answer, AllocError>
+        ensures { IfOk result (λ a. bytes_in a.text ≡ self.text.items) }
+    {
+        Answer::of_bytes(alloc, self.text, Told::Mended(self.told))
     }
 }

@@ -6,6 +6,7 @@ ghost use Rattle.hub_report.specs.ReachAnswer as spec;
 use crate::blocks::{Blocks, block_of};
 use crate::faults::{fault_line, path_fault_name};
 use crate::parts::joined;
+use crate::told::{Answer, Told};
 use hub_path::PathFault;
 use std::alloc::{AllocError, Global};
 
@@ -33,15 +34,34 @@ impl ReachAnswer<'_> {
         }
     }
 
+    /// The answer in words, or the line of the fault, and what it tells.
+    pub(crate) fn into_answer(self, alloc: Global) -> Result<Answer, AllocError>
+        ensures { IfOk result (λ a. bytes_in a.text ≡ spec.text_of self.entry) }
+    {
+        let text = self.text(alloc)?;
+        let told = self.told();
+        Ok(Answer { text, told })
+    }
+
     /// The answer in words, or the line of the fault.
-    pub(crate) fn into_text(self, alloc: Global) -> Result<Blocks, AllocError>
-        ensures { IfOk result (λ t. bytes_in t ≡ spec.text_of self.entry) }
+    fn text(&self, alloc: Global) -> Result<Blocks, AllocError>
+        ensures { IfOk result (λ t. bytes_in t ≡ spec.text_of self.now) }
     {
         match self {
             ReachAnswer::Reached => block_of(alloc, "reached\n"),
             ReachAnswer::NotReached => block_of(alloc, "not reached\n"),
-            ReachAnswer::NoProfile(name) => no_profile_line(alloc, name),
-            ReachAnswer::BadPath(fault) => fault_line(alloc, "path", path_fault_name(fault)),
+            ReachAnswer::NoProfile(name) => no_profile_line(alloc, *name),
+            ReachAnswer::BadPath(fault) => fault_line(alloc, "path", path_fault_name(*fault)),
+        }
+    }
+
+    /// What the answer tells.
+    fn told(&self) -> Told {
+        match self {
+            ReachAnswer::Reached => Told::Other,
+            ReachAnswer::NotReached => Told::NotReached,
+            ReachAnswer::NoProfile(_) => Told::NoProfile,
+            ReachAnswer::BadPath(fault) => Told::BadPath(*fault),
         }
     }
 }

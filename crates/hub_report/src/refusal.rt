@@ -9,6 +9,7 @@ ghost use Rattle.hub_report.specs.Rounds.{clash_lines};
 
 use crate::parts::joined;
 use crate::report::{OUT_OF_MEMORY, Report};
+use crate::told::Refusal;
 use hub_automaton::AutomatonFault;
 use hub_cert::{CheckFault, Goal, Place, ProfileSet};
 use hub_path::{RelPath, Root, Side};
@@ -28,10 +29,15 @@ impl<'a> Report<'a> {
         };
         match fault {
             CheckFault::OutOfMemory => Report::OutOfMemory,
-            fault => match fault_line(alloc, set.profiles(), set.rules(), goals.as_slice(), fault) {
-                Ok(line) => Report::Refused(line),
-                Err(_) => Report::OutOfMemory,
-            },
+            fault => {
+                let Ok(refusal) = Refusal::of(set.rules(), fault) else {
+                    return Report::OutOfMemory;
+                };
+                match fault_line(alloc, set.profiles(), set.rules(), goals.as_slice(), fault) {
+                    Ok(line) => Report::Refused(line, refusal),
+                    Err(_) => Report::OutOfMemory,
+                }
+            }
         }
     }
 
@@ -45,10 +51,15 @@ impl<'a> Report<'a> {
     {
         match fault {
             CheckFault::OutOfMemory => Report::OutOfMemory,
-            fault => match fault_line(alloc, &[], &[], &[], fault) {
-                Ok(line) => Report::Refused(line),
-                Err(_) => Report::OutOfMemory,
-            },
+            fault => {
+                let Ok(refusal) = Refusal::of(&[], fault) else {
+                    return Report::OutOfMemory;
+                };
+                match fault_line(alloc, &[], &[], &[], fault) {
+                    Ok(line) => Report::Refused(line, refusal),
+                    Err(_) => Report::OutOfMemory,
+                }
+            }
         }
     }
 }

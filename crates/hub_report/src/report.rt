@@ -3,12 +3,12 @@ ghost use Rattle.std.specs.Prelude.{◌≡◌, IfOk};
 ghost use Rattle.hub_report.specs.Blocks.{bytes_in};
 ghost use Rattle.hub_report.specs.Report as report;
 
-use crate::blocks::{Blocks, block_of};
 use crate::clashes_answer::ClashesAnswer;
 use crate::faulty_input::FaultyInput;
 use crate::mended::Mended;
 use crate::reach_answer::ReachAnswer;
 use crate::run_answer::RunAnswer;
+use crate::told::{Answer, Refusal, Told};
 use crate::verdict::Verdict;
 use std::alloc::{AllocError, Global};
 
@@ -24,8 +24,8 @@ pub enum Report<'a> {
     Reach(ReachAnswer<'a>),
     /// A run was asked for, and the bundle has no state.
     NoState,
-    /// The profiles may not run at the same time, or can't be shown to. The line of the fault.
-    Refused(String),
+    /// The profiles may not run at the same time, or can't be shown to. The line of the fault, and what it says.
+    Refused(String, Refusal),
     /// The profiles may run at the same time.
     Verdict(Verdict),
     /// What clashes in the set, or its rounds.
@@ -55,7 +55,7 @@ impl Report<'_> {
     {
         match self {
             Report::Verdict(_) | Report::Imported(_) => 0,
-            Report::Refused(_) => 1,
+            Report::Refused(..) => 1,
             Report::Faulty(_)
             | Report::NoState
             | Report::NotImported
@@ -79,29 +79,50 @@ impl Report<'_> {
         }
     }
 
-    /// The text that says the answer: its line, the lines of clashes or of rounds, the graph, the text of certificates or of a
-    /// bundle, the lines that were found, or `safe` or the number of rounds and below it what the jobs did and the text of the state that they left. It ends
-    /// with LF, if it isn't the empty bundle.
-    pub fn into_text(self, alloc: Global) -> Result<Blocks, AllocError>
-        ensures { IfOk result (λ t. bytes_in t ≡ report.text_of self.entry) }
+    /// The text that says the answer, and what it tells. The text is its line, the lines of clashes or of rounds, the graph, the text of
+    /// certificates or of a bundle, the lines that were found, or `safe` or the number of rounds and below it what the jobs did and the
+    /// text of the state that they left. It ends with LF, if it isn't the empty bundle.
+    pub fn into_answer(self, alloc: Global) -> Result<Answer, AllocError>
+        ensures { IfOk result (λ a. bytes_in a.text ≡ report.text_of self.entry) }
     {
         match self {
-            Report::Faulty(input) => input.into_text(alloc),
-            Report::Reach(answer) => answer.into_text(alloc),
-            Report::NoState => block_of(alloc, "fault: no state\n"),
-            Report::Refused(line) => Blocks::new(alloc, line.into_bytes()),
-            Report::Verdict(verdict) => verdict.into_text(alloc),
-            Report::Clashes(answer) => answer.into_text(alloc),
-            Report::Run(answer) => answer.into_text(alloc),
-            Report::Imported(text) => Blocks::new(alloc, text),
-            Report::NotImported => block_of(alloc, "fault: no bundle says what was read\n"),
-            Report::Mended(mended) => Blocks::new(alloc, mended.text),
-            Report::NotMended => block_of(
+            Report::Faulty(input) => input.into_answer(alloc),
+            Report::Reach(answer) => answer.into_answer(alloc),
+            Report::NoState => Answer::of_line(alloc, "fault: no state\n", Told::NoState),
+            Report::Refused(line, refusal) => {
+                Answer::of_bytes(alloc, line.into_bytes(), Told::Refused(refusal))
+            }
+            Report::Verdict(verdict) => verdict.into_answer(alloc),
+            Report::Clashes(answer) => answer.into_answer(alloc),
+            Report::Run(answer) => answer.into_answer(alloc),
+            Report::Imported(text) => imported(alloc, text),
+            Report::NotImported => Answer::of_line(
+                alloc,
+                "fault: no bundle says what was read\n",
+                Told::NotImported,
+            ),
+            Report::Mended(mended) => mended.into_answer(alloc),
+            Report::NotMended => Answer::of_line(
                 alloc,
                 "fault: the lines were not read as they were meant\n",
+                Told::Other,
             ),
-            Report::NotVerified => block_of(alloc, "fault: a round was not verified\n"),
-            Report::OutOfMemory => block_of(alloc, OUT_OF_MEMORY),
+            Report::NotVerified => {
+                Answer::of_line(alloc, "fault: a round was not verified\n", Told::Other)
+            }
+            Report::OutOfMemory => Answer::of_line(alloc, OUT_OF_MEMORY, Told::Other),
         }
     }
+}
+
+/// The answer with the text of a bundle of what was read for Unison.
+fn imported(alloc: Global, text: Vec<u8>) -> Result<Answer, AllocError>
+    ensures { IfOk result (λ a. bytes_in a.text ≡ text.items) }
+{
+    let told = if text.is_empty() {
+        Told::Nothing
+    } else {
+        Told::Yes
+    };
+    Answer::of_bytes(alloc, text, told)
 }

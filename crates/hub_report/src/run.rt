@@ -6,6 +6,7 @@ ghost use Rattle.hub_report.specs.Run as runs;
 
 use crate::blocks::Blocks;
 use crate::parts::joined;
+use crate::told::NotRun;
 use hub_path::Root;
 use hub_state::{State, write_state};
 use hub_text::Watched;
@@ -44,6 +45,17 @@ pub enum RunError {
     /// A root's history and the logs of the jobs didn't fit. Tests show none.
     #[error("Mismatch")]
     Mismatch,
+}
+
+impl RunError {
+    /// What it tells.
+    pub(crate) fn told(&self) -> NotRun {
+        match self {
+            RunError::NoWorkers | RunError::TooManyWorkers => NotRun::BadWorkers,
+            RunError::ThreadRefused => NotRun::ThreadRefused,
+            RunError::MissingReplica(_) | RunError::Stranger | RunError::Mismatch => NotRun::Unfit,
+        }
+    }
 }
 
 /// `safe`, and below it what the jobs did and the text of the state that they left.

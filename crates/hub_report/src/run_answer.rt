@@ -6,6 +6,7 @@ ghost use Rattle.hub_report.specs.RunAnswer as spec;
 use crate::blocks::Blocks;
 use crate::rounds_run::{RoundsRun, text_of_rounds_run};
 use crate::run::{Run, RunError, text_of_error, text_of_run};
+use crate::told::{Answer, Told};
 use std::alloc::{AllocError, Global};
 
 /// What came of a run.
@@ -33,13 +34,34 @@ impl RunAnswer {
 
     /// `safe` or the number of rounds, and below it what the jobs did and the text of the state that they left, or why they
     /// weren't run.
-    pub(crate) fn into_text(self, alloc: Global) -> Result<Blocks, AllocError>
+    pub(crate) fn into_answer(self, alloc: Global) -> Result<Answer, AllocError>
+        ensures { IfOk result (λ a. bytes_in a.text ≡ spec.text_of self) }
+    {
+        let told = self.told();
+        let text = self.into_text(alloc)?;
+        Ok(Answer { text, told })
+    }
+
+    /// The text of the answer.
+    fn into_text(self, alloc: Global) -> Result<Blocks, AllocError>
         ensures { IfOk result (λ t. bytes_in t ≡ spec.text_of self) }
     {
         match self {
             RunAnswer::Ran(run) => text_of_run(alloc, run),
             RunAnswer::RanByRounds(run) => text_of_rounds_run(alloc, run),
             RunAnswer::NotRun(error) => text_of_error(alloc, &error),
+        }
+    }
+
+    /// What the answer tells.
+    fn told(&self) -> Told {
+        match self {
+            RunAnswer::Ran(_) => Told::Yes,
+            RunAnswer::RanByRounds(run) => match &run.error {
+                Some(error) if run.lines.is_empty() => Told::NotRun(error.told()),
+                _ => Told::Yes,
+            },
+            RunAnswer::NotRun(error) => Told::NotRun(error.told()),
         }
     }
 }

@@ -3,7 +3,7 @@ ghost use Rattle.std.specs.Prelude.{◌≡◌, IfOk};
 ghost use Rattle.hub_report.specs.Blocks.{bytes_in};
 ghost use Rattle.hub_report.specs.Verdict as spec;
 
-use crate::blocks::{Blocks, block_of};
+use crate::told::{Answer, Told};
 use std::alloc::{AllocError, Global};
 
 /// That the profiles may run at the same time.
@@ -19,13 +19,13 @@ pub enum Verdict {
 
 impl Verdict {
     /// The verdict in a word, or the text of the certificates.
-    pub(crate) fn into_text(self, alloc: Global) -> Result<Blocks, AllocError>
-        ensures { IfOk result (λ t. bytes_in t ≡ spec.text_of self) }
+    pub(crate) fn into_answer(self, alloc: Global) -> Result<Answer, AllocError>
+        ensures { IfOk result (λ a. bytes_in a.text ≡ spec.text_of self) }
     {
         match self {
-            Verdict::Safe => block_of(alloc, "safe\n"),
-            Verdict::Verified => block_of(alloc, "verified\n"),
-            Verdict::Certified(text) => Blocks::new(alloc, text.into_bytes()),
+            Verdict::Safe => Answer::of_line(alloc, "safe\n", Told::Yes),
+            Verdict::Verified => Answer::of_line(alloc, "verified\n", Told::Yes),
+            Verdict::Certified(text) => Answer::of_bytes(alloc, text.into_bytes(), Told::Yes),
         }
     }
 }

@@ -147,7 +147,7 @@ reach-le (NoProfile name) = omega arith
 reach-le (BadPath f) = omega arith
 
 clashes-le : (a : ClashesAnswer) → clashes.status_of a ≤ 3
-clashes-le (Lines lines) = omega arith
+clashes-le (Lines lines first) = omega arith
 clashes-le (Graph g) = decided-le g.safe
 clashes-le (Cut c) = decided-le c.decided
 

@@ -206,7 +206,7 @@ verdict-means request bytes (Certified text) line l h =
 -- of what clashes in the set,
 clashes-answer-means : (request : Request) (bytes : List ℕ) (a : ClashesAnswer) (line : List ℕ) → line ≡ clashes.text_of a
     → IsTrueOf request bytes (answer.Clashes a) → Means request bytes line (clashes.status_of a) (start line)
-clashes-answer-means request bytes (Lines text) line l h =
+clashes-answer-means request bytes (Lines text first) line l h =
     clashes-mean request bytes line h.contents h.spelled (subst (ListsClashes (members h.contents)) (sym l) h.told.told.1)
 clashes-answer-means request bytes (Graph g) line l h =
     let drawn = subst (λ t. DrawsClashes (members h.contents) t g.safe) (sym l) h.told.told.1 in
@@ -266,7 +266,7 @@ text-means request bytes (answer.Reach a) line o l h = reach-means request bytes
 text-means request bytes (answer.Verdict v) line o l h = verdict-means request bytes v line l h
 text-means request bytes (answer.Clashes a) line o l h = clashes-answer-means request bytes a line l h
 text-means request bytes (answer.Run a) line o l h = run-means request bytes a line l h
-text-means request bytes (answer.Refused text) line o l h =
+text-means request bytes (answer.Refused text refusal) line o l h =
     subst (λ t. Means request bytes line 1 (start t)) (sym (l ∙ h.told.told.1))
     (refusal-means request bytes line 1 h.contents h.told.to_do h.told.reason h.spelled h.told.asked h.told.refused)
 text-means request bytes (answer.Imported text) line o l h =

@@ -52,7 +52,7 @@ shown : (request : Request) (bytes text : List ℕ) (r : Report) → request ≡
 shown request bytes text (answer.Faulty f) is l z h = absurd (omega (arith, z))
 shown request bytes text (answer.Reach a) is l z h = absurd (no-reach request _ a is h.told)
 shown request bytes text answer.NoState is l z h = absurd (omega (arith, z))
-shown request bytes text (answer.Refused t) is l z h = absurd (omega (arith, z))
+shown request bytes text (answer.Refused t f) is l z h = absurd (omega (arith, z))
 shown request bytes text (answer.Verdict v) is l z h = absurd (no-task request _ _ is h.told.asked)
 shown request bytes text (answer.Clashes a) is l z h = absurd (no-task request _ _ is h.told.asked)
 shown request bytes text (answer.Run a) is l z h = absurd (no-task request _ _ is h.told.asked)

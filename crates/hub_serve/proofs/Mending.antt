@@ -64,7 +64,7 @@ module _ (reading : Reading) (as_bundle : Bool) where
   shown request bytes text (answer.Faulty f) status is l e z h = absurd (omega (arith, e, z))
   shown request bytes text (answer.Reach a) status is l e z h = absurd (no-reach request _ a is h.told)
   shown request bytes text answer.NoState status is l e z h = absurd (omega (arith, e, z))
-  shown request bytes text (answer.Refused t) status is l e z h = absurd (no-task request _ _ is h.told.asked)
+  shown request bytes text (answer.Refused t f) status is l e z h = absurd (no-task request _ _ is h.told.asked)
   shown request bytes text (answer.Verdict v) status is l e z h = absurd (no-task request _ _ is h.told.asked)
   shown request bytes text (answer.Clashes a) status is l e z h = absurd (no-task request _ _ is h.told.asked)
   shown request bytes text (answer.Run a) status is l e z h = absurd (no-task request _ _ is h.told.asked)

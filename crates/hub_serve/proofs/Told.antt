@@ -50,7 +50,7 @@ asks-for q c to_do is = record { of_set = q; asked = refl; task_is = is }
 -- Profiles that are no set are refused, whatever is to be done, unless they are put apart.
 pub refusal-told : (q : Question) (c : BundleContents) (to_do : Task) → task_of q c.state ≡ Some to_do → (e : CheckFault) (r : Report) → IsRefused (members c) e
     → puts_apart to_do (members c) ≡ false → TellsRefusal (members c) e r → IsTold (about q) c r
-refusal-told q c to_do is e (Refused t) i stays h = record { to_do = to_do; asked = asks-for q c to_do is; reason = e; refused = inl (i, stays); told = h }
+refusal-told q c to_do is e (Refused t f) i stays h = record { to_do = to_do; asked = asks-for q c to_do is; reason = e; refused = inl (i, stays); told = h }
 refusal-told q c to_do is e OutOfMemory i stays h = tt
 refusal-told q c to_do is e _ i stays h = absurd h
 
@@ -74,7 +74,7 @@ pub set-told : (q : Question) (c : BundleContents) (to_do : Task) → task_of q 
 set-told q c to_do is (Faulty f) h = absurd h
 set-told q c to_do is (Reach a) h = absurd h
 set-told q c to_do is NoState h = absurd h
-set-told q c to_do is (Refused t) h = record { to_do = to_do; asked = asks-for q c to_do is; reason = h.0; refused = inr h.1; told = h.2 }
+set-told q c to_do is (Refused t f) h = record { to_do = to_do; asked = asks-for q c to_do is; reason = h.0; refused = inr h.1; told = h.2 }
 set-told q c to_do is (Imported t) h = absurd h
 set-told q c to_do is NotImported h = absurd h
 set-told q c to_do is (Mended m) h = absurd h
@@ -104,7 +104,7 @@ apart-refused S Ps Rs e ps rs h = subst (λ (M : Members). IsRefusedApart M e) (
 
 -- A set that is refused for a fault of it was to be told so.
 pub refused-told : (t : Task) (S : Members) (cs : List Certificate) (e : CheckFault) (r : Report) → FaultOf t S cs e → TellsRefusal S e r → IsToldOfSet t S cs r
-refused-told t S cs e (Refused x) f h = (e, f, h)
+refused-told t S cs e (Refused x y) f h = (e, f, h)
 refused-told t S cs e OutOfMemory f h = tt
 refused-told t S cs e _ f h = absurd h
 

@@ -121,7 +121,7 @@ IsVerdictOn t S cs (Certified text) = (t ≡ task.Certify) × WritesCertificates
 
 -- or that is the answer with what clashes in it,
 abbrev pub AreClashesOf : Task → Members → ClashesAnswer → Type 0
-AreClashesOf t S (Lines text) = (t ≡ task.Clashes) × ListsClashes S (string_bytes text)
+AreClashesOf t S (Lines text first) = (t ≡ task.Clashes) × ListsClashes S (string_bytes text)
 AreClashesOf t S (Graph g) = (t ≡ task.Graph) × DrawsClashes S (string_bytes g.text) g.safe
 AreClashesOf t S (Cut c) = (t ≡ task.Rounds) × IsCut S c
 
@@ -136,8 +136,8 @@ abbrev pub IsToldOfSet : Task → Members → List Certificate → Report → Ty
 IsToldOfSet t S cs (answer.Verdict v) = IsVerdictOn t S cs v
 IsToldOfSet t S cs (answer.Clashes a) = AreClashesOf t S a
 IsToldOfSet t S cs (answer.Run a) = CameOfRun t S a
-IsToldOfSet t S cs (answer.Refused text) =
-    (e : CheckFault) × FaultOf t S cs e × TellsRefusal S e (answer.Refused text)
+IsToldOfSet t S cs (answer.Refused text refusal) =
+    (e : CheckFault) × FaultOf t S cs e × TellsRefusal S e (answer.Refused text refusal)
 IsToldOfSet t S cs answer.NotVerified = ((t ≡ task.Rounds) ⊎ RunsByRounds t) × HasUnverifiedRound S
 IsToldOfSet t S cs answer.OutOfMemory = ⊤
 IsToldOfSet t S cs _ = ⊥
@@ -201,7 +201,7 @@ IsTold request c (answer.Imported text) = IsImported request c text.items
 IsTold request c answer.NotImported = request ≡ question.imported
 IsTold request c (answer.Mended m) = ⊥
 IsTold request c answer.NotMended = ⊥
-IsTold request c (answer.Refused t) = IsToldRefused request c (answer.Refused t)
+IsTold request c (answer.Refused t f) = IsToldRefused request c (answer.Refused t f)
 IsTold request c answer.OutOfMemory = ⊤
 IsTold request c r = IsToldAbout request c r
 

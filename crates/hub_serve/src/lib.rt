@@ -1,6 +1,7 @@
 //! What hubsync does between the words on its command line and its exit status, over any reader and writer.
 //!
 //! - [`serve_process`] is all of it, from the words as the process got them. [`serve`] begins with words that were read.
+//!   [`serve_and_tell`] also returns what was answered, as a value for remarks.
 //!
 //! ```rust
 //! let words: Vec<&str> = words.split(' ').collect(rt.alloc())?;
@@ -57,5 +58,5 @@ mod run;
 mod task;
 mod verdict;
 
-pub use program::{serve, serve_process};
+pub use program::{Served, serve, serve_and_tell, serve_process};
 pub use progress::{NoProgress, Progress};

@@ -20,7 +20,7 @@ use hub_mend::{
     Piece, is_cut_into, line_count, mended_text, only_take_away, pieces_with_lines, safe_line,
     shown_lines,
 };
-use hub_report::{Mended, Report, Verdict};
+use hub_report::{Mended, Refusal, Report, ToldMended, Verdict};
 use std::alloc::{AllocError, Global};
 use std::sync::Wait;
 use std::thread::Threads;
@@ -114,7 +114,10 @@ fn report_on_said<'a>(
 {
     match said {
         Report::Verdict(verdict) => report_on_verdict(alloc, as_bundle, pieces, verdict),
-        Report::Refused(line) => report_with(alloc, as_bundle, pieces, line.as_str(), false),
+        Report::Refused(line, refusal) => {
+            let told = told_of(pieces, Some(refusal));
+            report_with(alloc, as_bundle, pieces, line.as_str(), false, told)
+        }
         Report::OutOfMemory => Report::OutOfMemory,
         _ => Report::NotMended,
     }
@@ -145,7 +148,10 @@ fn report_on_safe<'a>(alloc: Global, as_bundle: bool, pieces: &[Piece]) -> Repor
         return Report::OutOfMemory;
     };
     match safe_line(alloc, count) {
-        Ok(line) => report_with(alloc, as_bundle, pieces, line.as_str(), true),
+        Ok(line) => {
+            let told = told_of(pieces, None);
+            report_with(alloc, as_bundle, pieces, line.as_str(), true, told)
+        },
         Err(AllocError) => Report::OutOfMemory,
     }
 }
@@ -157,14 +163,23 @@ fn report_with<'a>(
     pieces: &[Piece],
     line: &str,
     safe: bool,
+    told: ToldMended,
 ) -> Report<'a>
     ensures told { HoldsIf pieces.now as_bundle
         (λ _ new. SaysOfMended safe new pieces.now line.now) result }
     ensures read { unread_by result ≡ None }
 {
     match text_with(alloc, as_bundle, pieces, line) {
-        Ok(text) => Report::Mended(Mended { text, safe }),
+        Ok(text) => Report::Mended(Mended { text, safe, told }),
         Err(AllocError) => Report::OutOfMemory,
+    }
+}
+
+/// What these lines tell, where the set with them is refused so or isn't.
+fn told_of(pieces: &[Piece], refusal: Option<Refusal>) -> ToldMended {
+    ToldMended {
+        has_lines: pieces.iter().any(|piece| !piece.lines.is_empty()),
+        refusal,
     }
 }
 

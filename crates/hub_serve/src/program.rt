@@ -12,7 +12,7 @@ use crate::answer::report_on;
 use crate::laws::what_is_shown_is_not_safe;
 use crate::progress::Progress;
 use hub_cli::{Error, ErrorKind, Query, read_words};
-use hub_report::{Blocks, OUT_OF_MEMORY};
+use hub_report::{Blocks, OUT_OF_MEMORY, Told};
 use hub_text::Watched;
 use std::alloc::Global;
 use std::convert::AsStr;
@@ -85,6 +85,35 @@ pub fn serve<
     ensures full { ServesOver input.old input.new output.old output.new R.remaining W.contents
         (asked_of (map S.text words.entry.now)) result }
 {
+    serve_and_tell(rt, words, input, output, progress).status
+}
+
+/// The exit status of the process, and what was answered.
+#[derive(Drop)]
+pub struct Served {
+    /// The status.
+    pub status: u8,
+    /// What was answered, as a value for remarks on it.
+    pub told: Told,
+}
+
+/// Does what `serve` does, and also returns what was answered.
+pub fn serve_and_tell<
+    'a,
+    S: AsStr,
+    T: AllocGlobal + Eprint + Threads + Wait + Sync,
+    R: Read,
+    W: Write,
+    P: Progress + Sync,
+>(rt: &T, words: &'a [S], input: &mut Watched<R>, output: &mut Watched<W>, progress: &P) -> Served
+    requires input { input.old.failed ≡ false }
+    requires output { output.old.failed ≡ false }
+    ensures first { Serves (asked_of (map S.text words.entry.now)) (R.remaining input.old.device)
+        (W.contents output.old.device) (W.contents output.new.device) output.new.failed
+        result.status }
+    ensures full { ServesOver input.old input.new output.old output.new R.remaining W.contents
+        (asked_of (map S.text words.entry.now)) result.status }
+{
     what_is_shown_is_not_safe();
     let alloc = rt.alloc();
     match read_words(alloc, words) {
@@ -94,18 +123,24 @@ pub fn serve<
 }
 
 /// Tells the user why the words ask for nothing, or that memory is out.
-fn refuse<T: Eprint, W: Write>(rt: &T, error: &Error, output: &mut Watched<W>) -> u8
+fn refuse<T: Eprint, W: Write>(rt: &T, error: &Error, output: &mut Watched<W>) -> Served
     requires { output.old.failed ≡ false }
-    ensures nothing { AnswersNothingTo output.old output.new W.contents result }
+    ensures nothing { AnswersNothingTo output.old output.new W.contents result.status }
     ensures memory { kind_of error.now ≡ ErrorKind.OutOfMemory
-        → WritesMemory output.old output.new W.contents result }
+        → WritesMemory output.old output.new W.contents result.status }
 {
     if error.kind() == ErrorKind::OutOfMemory {
-        return write_out_of_memory(output);
+        return Served {
+            status: write_out_of_memory(output),
+            told: Told::Nothing,
+        };
     }
     // if standard error fails too, there is nobody left to tell
     let _ = rt.eprint(error);
-    2
+    Served {
+        status: 2,
+        told: Told::Nothing,
+    }
 }
 
 /// Tells the user why the words on the command line can't be read, or that memory is out.
@@ -131,19 +166,25 @@ fn answer<T: Eprint + Threads + Wait + Sync, R: Read, W: Write, P: Progress + Sy
     input: &mut Watched<R>,
     output: &mut Watched<W>,
     progress: &P,
-) -> u8
+) -> Served
     requires input { input.old.failed ≡ false }
     requires output { output.old.failed ≡ false }
     ensures { AnswersQuery input.old input.new output.old output.new R.remaining W.contents
-        asked.entry result }
+        asked.entry result.status }
 {
     let report = report_on(rt, alloc, asked, input, progress);
     progress.over();
     let status = report.status();
     name_undecided(rt, report.undecided());
-    match report.into_text(alloc) {
-        Ok(text) => write_text(&text, status, output),
-        Err(_) => write_out_of_memory(output),
+    match report.into_answer(alloc) {
+        Ok(answer) => Served {
+            status: write_text(&answer.text, status, output),
+            told: answer.told,
+        },
+        Err(_) => Served {
+            status: write_out_of_memory(output),
+            told: Told::Other,
+        },
     }
 }
 

@@ -15,8 +15,8 @@ use hub_apart::{Apart, lines_apart};
 use hub_cert::{CheckFault, ProfileSet};
 use hub_profile::{Profile, Rules};
 use hub_report::{
-    ClashesAnswer, Cut, Graph, Report, Verdict, graph_of_clashes, lines_of_clashes, text_of_rounds,
-    undecided_pairs,
+    ClashesAnswer, Cut, Graph, Refusal, Report, Verdict, graph_of_clashes, lines_of_clashes,
+    text_of_rounds, undecided_pairs,
 };
 use hub_rounds::{Rounds, RoundsFault, clashes_of, rounds_by_lines, rounds_of};
 use hub_text::Items;
@@ -33,9 +33,20 @@ pub fn report_on_clashes<'a>(alloc: Global, set: &ProfileSet) -> Report<'a>
     if clashes.lines().is_empty() {
         return Report::Verdict(Verdict::Safe);
     }
+    let Ok(first) = first_refusal(set, clashes.lines()) else {
+        return Report::OutOfMemory;
+    };
     match lines_of_clashes(alloc, set, &clashes) {
-        Ok(lines) => Report::Clashes(ClashesAnswer::Lines(lines)),
+        Ok(lines) => Report::Clashes(ClashesAnswer::Lines(lines, first)),
         Err(AllocError) => Report::OutOfMemory,
+    }
+}
+
+/// What the first of these lines about a set says.
+fn first_refusal(set: &ProfileSet, lines: &[CheckFault]) -> Result<Refusal, AllocError> {
+    match lines.first() {
+        Some(line) => Refusal::of(set.rules(), line),
+        None => Ok(Refusal::BadCertificates),
     }
 }
 

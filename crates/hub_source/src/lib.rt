@@ -2,7 +2,6 @@
 //!
 //! - [`Source`]: the first lines of an input. A [`SourceLine`] knows its section, its number there and in the input, and the file
 //!   that it came from with its number there, if there is one ([`SourceFile`]).
-//! - [`FaultPlace`]: where a fault is, as the line of an answer says it.
 //! - [`say`], [`say_line`] and [`say_placed`] add a line to a remark. [`nearest`] is the known word that was meant.
 //!
 //! ```rust
@@ -20,11 +19,9 @@
 #![tactic(auto)]
 
 mod near;
-mod place;
 mod said;
 mod source;
 
 pub use near::nearest;
-pub use place::{FaultPlace, number_and_fault, place_in, place_in_profile};
 pub use said::{Said, covers, name_of, odd_encoding, say, say_line, say_placed, shown};
 pub use source::{LineOrigin, LinePlace, Source, SourceFile, SourceLine, trimmed};

@@ -4,7 +4,7 @@
 //!
 //! `serve` of `hub_serve` does all that the process does between its arguments and its exit status, over any reader and writer; its
 //! contract says what is written. `serve_with_remarks` adds the remarks of `hub_remarks` under the same contract: it keeps a copy
-//! of the first bytes of the input and of the answer (`kept`). The input is standard input, or the bundle that is made of the files
+//! of the first bytes of the input (`captured`). The input is standard input, or the bundle that is made of the files
 //! that the words name (`files` reads them, `untaken` says what is wrong with one, and `bundled` answers over them).
 #![tactic(auto)]
 

@@ -4,8 +4,9 @@ ghost use Rattle.hubsync.specs.Written.{ServesFor};
 
 use crate::captured::{Captured, Prefix};
 use crate::terminal::Terminal;
-use hub_remarks::{Answers, FirstBytes, Remarks, remark, what_to_ask};
-use hub_serve::{NoProgress, serve};
+use hub_remarks::{Answers, FirstBytes, Questions, Remarks, Reply, remark, what_to_ask};
+use hub_report::Told;
+use hub_serve::{NoProgress, Served, serve_and_tell};
 use hub_source::SourceFile;
 use hub_text::Watched;
 use std::alloc::{AllocError, Global};
@@ -19,15 +20,12 @@ use std::time::Clock;
 /// How many bytes of the input are kept for remarks.
 const INPUT_BYTES: usize = 1_048_576;
 
-/// How many bytes of the answer are kept for remarks.
-const OUTPUT_BYTES: usize = 65_536;
-
 /// What is kept of the input and of the output, and who reads standard error.
 #[derive(Drop)]
 pub struct Capture {
     /// Of the input.
     pub input: RefCell<Prefix>,
-    /// Of the output.
+    /// Of the output, of which no bytes are kept.
     pub output: RefCell<Prefix>,
     /// Whether standard error is a terminal.
     pub by_terminal: bool,
@@ -38,7 +36,7 @@ impl Capture {
     pub fn new(alloc: Global, by_terminal: bool) -> Capture {
         Capture {
             input: RefCell::new(Prefix::new(alloc, INPUT_BYTES)),
-            output: RefCell::new(Prefix::new(alloc, OUTPUT_BYTES)),
+            output: RefCell::new(Prefix::new(alloc, 0)),
             by_terminal,
         }
     }
@@ -65,7 +63,7 @@ impl Answered {
     }
 }
 
-/// Does what `serve` does, and then says on standard error what belongs to the answer. On a terminal it says how far it is, too.
+/// Does what `serve_and_tell` does, and then says on standard error what belongs to the answer. On a terminal it says how far it is, too.
 ///
 /// The remarks change neither the output nor the status, also if they can't be made or written. They are made of what is kept in
 /// `capture`. If the sections of the input were made of files, these are the files in their order.
@@ -87,23 +85,23 @@ pub fn serve_with_remarks<
         result.status }
 {
     let progress = Terminal::new(rt, capture.by_terminal);
-    let status = serve(rt, words, input, output, &progress);
-    let may_mislead = say_remarks(rt, words, files, capture, output.failed(), status);
+    let served = serve_and_tell(rt, words, input, output, &progress);
+    let may_mislead = say_remarks(rt, words, files, capture, output.failed(), &served.told);
     Answered {
-        status,
+        status: served.status,
         may_mislead,
     }
 }
 
-/// Says what belongs to the answer of this status, and returns whether a yes may mislead. It also may where nothing could be looked at. If
-/// standard error fails too, there is nobody left to tell.
+/// Says what belongs to an answer, and returns whether a yes may mislead. It also may where nothing could be looked at. If standard
+/// error fails too, there is nobody left to tell.
 fn say_remarks<T: AllocGlobal + Clock + Eprint + Threads + Wait + Sync>(
     rt: &T,
     words: &[String],
     files: &[SourceFile<'_>],
     capture: &Capture,
     is_cut: bool,
-    status: u8,
+    told: &Told,
 ) -> bool {
     let (Ok(input), Ok(output)) = (capture.input.try_borrow(), capture.output.try_borrow()) else {
         return true;
@@ -115,14 +113,7 @@ fn say_remarks<T: AllocGlobal + Clock + Eprint + Threads + Wait + Sync>(
     if let Some(error) = input.error() {
         let _ = eprintln!(rt; "hubsync: standard input can't be read: {error}");
     }
-    match remarks_on(
-        rt,
-        words,
-        files,
-        input.first_bytes(),
-        output.first_bytes(),
-        status,
-    ) {
+    match remarks_on(rt, words, files, input.first_bytes(), told) {
         Ok(remarks) => {
             let text = remarks.text.as_str();
             let _ = eprint!(rt; "{text}");
@@ -132,40 +123,56 @@ fn say_remarks<T: AllocGlobal + Clock + Eprint + Threads + Wait + Sync>(
     }
 }
 
-/// What is to be said about an answer of this status, once hubsync has answered what has to be known for that.
+/// What is to be said about an answer, once hubsync has answered what has to be known for that.
 fn remarks_on<T: AllocGlobal + Clock + Eprint + Threads + Wait + Sync>(
     rt: &T,
     words: &[String],
     files: &[SourceFile<'_>],
     input: FirstBytes<'_>,
-    output: FirstBytes<'_>,
-    status: u8,
+    told: &Told,
 ) -> Result<Remarks, AllocError> {
-    let alloc = rt.alloc();
-    let asked = what_to_ask(alloc, words, files, input, output)?;
-    let mut mend = Vec::new(alloc);
-    let mut check = Vec::new(alloc);
-    if !asked.mend.is_empty() {
-        mend = answer_to(rt, &["mend", "--unison"], asked.mend.as_slice())?;
-    }
-    if asked.check {
-        check = answer_to(rt, &["check"], input.bytes)?;
-    }
+    let asked = what_to_ask(rt.alloc(), words, files, input, told)?;
+    let mend = reply_on_mend(rt, &asked)?;
+    let check = reply_on_check(rt, &asked, input.bytes)?;
     let answers = Answers {
-        is_yes: status == 0,
-        mend: mend.as_slice(),
-        check: check.as_slice(),
+        mend: mend.as_ref(),
+        check: check.as_ref(),
     };
-    let remarks = remark(rt.alloc(), words, files, input, output, answers)?;
+    let remarks = remark(rt.alloc(), words, files, input, told, answers)?;
     Ok(remarks)
 }
 
-/// What hubsync writes for these words, which don't begin with its name, and this input.
-fn answer_to<T: AllocGlobal + Clock + Eprint + Threads + Wait + Sync>(
+/// What hubsync answers about the profiles of a clash, if that is asked.
+fn reply_on_mend<T: AllocGlobal + Clock + Eprint + Threads + Wait + Sync>(
+    rt: &T,
+    asked: &Questions,
+) -> Result<Option<Reply>, AllocError> {
+    if asked.mend.is_empty() {
+        return Ok(None);
+    }
+    let reply = reply_to(rt, &["mend", "--unison"], asked.mend.as_slice())?;
+    Ok(Some(reply))
+}
+
+/// What hubsync answers about an input by its own reading, if that is asked.
+fn reply_on_check<T: AllocGlobal + Clock + Eprint + Threads + Wait + Sync>(
+    rt: &T,
+    asked: &Questions,
+    input: &[u8],
+) -> Result<Option<Reply>, AllocError> {
+    if !asked.check {
+        return Ok(None);
+    }
+    let reply = reply_to(rt, &["check"], input)?;
+    Ok(Some(reply))
+}
+
+/// What hubsync answers to these words, which don't begin with its name, and this input.
+fn reply_to<T: AllocGlobal + Clock + Eprint + Threads + Wait + Sync>(
     rt: &T,
     words: &[&str],
     input: &[u8],
-) -> Result<Vec<u8>, AllocError> {
+) -> Result<Reply, AllocError> {
     let alloc = rt.alloc();
     let mut all = Vec::new(alloc);
     all.push(String::from_str(alloc, "hubsync")?)?;
@@ -174,8 +181,12 @@ fn answer_to<T: AllocGlobal + Clock + Eprint + Threads + Wait + Sync>(
     }
     let mut input = Watched::new(input);
     let mut output = Watched::new(Vec::new(alloc));
-    serve(rt, all.as_slice(), &mut input, &mut output, &NoProgress);
-    Ok(output.into_inner())
+    let served = serve_and_tell(rt, all.as_slice(), &mut input, &mut output, &NoProgress);
+    let Served { told, .. } = served;
+    Ok(Reply {
+        text: output.into_inner(),
+        told,
+    })
 }
 
 /// Says that the answer isn't whole.

@@ -1,7 +1,7 @@
 use Rattle.hub_cli.specs.Words.{request_of}
 use Rattle.hub_serve.proofs.Answered.{serves-asked, serves-refused}
 use Rattle.hub_serve.proofs.Short.{asked-short, refused-short}
-use Rattle.hub_serve.proofs.program.serve.Goals as goal
+use Rattle.hub_serve.proofs.program.serve_and_tell.Goals as goal
 
 pub returns-in-Ok-clause-full : goal.returns-in-Ok-clause-full
 returns-in-Ok-clause-full g c = serves-asked c.what_is_shown_is_not_safe.ensures.overlap c.what_is_shown_is_not_safe.ensures.breach _ (request_of c.in-Ok.asked) _ _ _ _ _ _ c.in-Ok.ensures.ok c.answer.ensures

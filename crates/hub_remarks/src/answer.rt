@@ -3,10 +3,10 @@
 use crate::asked::{say_asked_path, say_not_reached, say_profiles, say_run_fault};
 use crate::bundle::{say_bundle_fault, say_unread};
 use crate::clash::{Answers, Mending, first_clash, mending_in, say_plain_answer};
+use crate::input::{FirstBytes, profile_section};
 use crate::mend::{is_bundle, lines_found};
 use crate::refusal::say_refusal;
 use crate::setting::say_setting_fault;
-use crate::source_of::{FirstBytes, profile_section};
 use crate::text::{say_certificates_fault, say_state_fault};
 use crate::unison::{Listing, is_for_unison, say_more, say_yes};
 use crate::words::say_words;
@@ -20,6 +20,17 @@ use std::alloc::{AllocError, Global};
 const PLAIN_LINES: &str = "\
 hubsync: note: Unison may read these lines otherwise: those of mend --unison hold for it, too
 ";
+
+/// Said where a run is asked for without a state.
+const NO_STATE: &str =
+    "run needs a section %state, as docs/REFERENCE.md shows, and check needs none";
+
+/// Said where no bundle says what was read for Unison.
+const NOT_IMPORTED: &str =
+    "a rule's pattern would have over 200 characters with each member of its sets: write two rules";
+
+/// Said where a bundle with lines isn't safe.
+const MENDED_BUNDLE: &str = "not safe: mend without --bundle says why";
 
 /// What is said about an answer.
 #[derive(Drop)]
@@ -150,17 +161,9 @@ fn say_answer(
         Told::Faulty(fault) => say_faulty(out, source, fault),
         Told::NoProfile => say_profiles(out, source, words),
         Told::BadPath(fault) => say_asked_path(out, source, words, *fault),
-        Told::NoState => say(
-            out,
-            "run needs a section %state, as docs/REFERENCE.md shows, and check needs none",
-        ),
-        Told::NotImported => say(
-            out,
-            "a rule's pattern would have over 200 characters with each member of its sets: write two rules",
-        ),
-        Told::Mended(_) if is_bundle(words) => {
-            say(out, "not safe: mend without --bundle says why")
-        }
+        Told::NoState => say(out, NO_STATE),
+        Told::NotImported => say(out, NOT_IMPORTED),
+        Told::Mended(_) if is_bundle(words) => say(out, MENDED_BUNDLE),
         _ => say_of_whole(out, source, words, told, mending),
     }
 }

@@ -1,8 +1,8 @@
 //! Remarks on what `reach` and `run` are asked.
 
 use crate::ignored::ignoring_line;
+use crate::input::profile_section;
 use crate::refusal::say_kept;
-use crate::source_of::profile_section;
 use crate::value::{path_remedy, say_below, say_twice};
 use hub_notes::{has_no_path, line_above};
 use hub_path::PathFault;

@@ -1,8 +1,8 @@
 //! What hubsync says of the profiles that an overlap or a breach names.
 
+use crate::input::FirstBytes;
 use crate::mend::{is_bundle, is_mend};
 use crate::refusal::{broken_rule, named_profiles};
-use crate::source_of::FirstBytes;
 use crate::unison::is_for_unison;
 use hub_notes::wider_notes;
 use hub_report::{Refusal, Told};

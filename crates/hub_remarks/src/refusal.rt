@@ -17,7 +17,8 @@ pub(crate) fn say_refusal(
 ) -> Said {
     match refusal {
         Refusal::Overlap { path, .. } => {
-            say_overlap(out, source, refusal, path.as_str(), mending)
+            say_named(out, source, refusal, path.as_str())?;
+            say_parting(out, source, mending)
         }
         Refusal::Breach {
             rule,
@@ -30,6 +31,13 @@ pub(crate) fn say_refusal(
             say_named(out, source, refusal, path.as_str())?;
             say_keeping(out, source, *verb, root.as_str(), mending)
         }
+        _ => say_refused(out, source, refusal),
+    }
+}
+
+/// Says what to do about a set that is refused for no path.
+fn say_refused(out: &mut String, source: &Source<'_>, refusal: &Refusal) -> Said {
+    match refusal {
         Refusal::TooManyProfiles => say_too_many_profiles(out, source),
         Refusal::SameName(name) => say_same_name(out, source, name.text()),
         Refusal::NestedRoots([first, second]) => {
@@ -43,19 +51,12 @@ pub(crate) fn say_refusal(
             "a profile's paths and patterns have at most 4,096 beginnings",
         ),
         Refusal::TooLarge => say(out, "nothing is known: fewer * in patterns would help"),
-        Refusal::BadCertificates => say_certificates(out, source),
+        _ => say_certificates(out, source),
     }
 }
 
-/// Says which lines make two profiles overlap at a path, and what to do.
-fn say_overlap(
-    out: &mut String,
-    source: &Source<'_>,
-    refusal: &Refusal,
-    path: &str,
-    mending: Mending<'_>,
-) -> Said {
-    say_named(out, source, refusal, path)?;
+/// Says what keeps two profiles apart that overlap.
+fn say_parting(out: &mut String, source: &Source<'_>, mending: Mending<'_>) -> Said {
     match mending {
         Mending::Lines(lines) => {
             say(

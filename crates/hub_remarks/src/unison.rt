@@ -1,8 +1,8 @@
 //! Remarks on answers about what Unison may do by the profiles.
 
+use crate::input::profile_section;
 use crate::limit::cut_lines;
 use crate::setting::{fault_line, say_fault_on};
-use crate::source_of::profile_section;
 use hub_bundle::SectionFault;
 use hub_glob::PATTERN_CHARACTERS;
 use hub_preferences::{Finding, Outcome, findings};

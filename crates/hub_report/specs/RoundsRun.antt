@@ -3,12 +3,12 @@ use Rattle.std.specs.Prelude.{◌∷◌, ℕ, List, [], Option, None, Some, code
 use Rattle.std.specs.Fmt.{decimal}
 use Rattle.hub_state.specs.Writing.{state_text}
 use Rattle.hub_report.specs.declared.rounds_run.RoundsRun.{RoundsRun}
-use Rattle.hub_report.specs.declared.run.RunError.{RunError}
+use Rattle.hub_job.specs.declared.run_fault.RunFault.{RunFault}
 use Rattle.hub_report.specs.Refusal.{joined}
 use Rattle.hub_report.specs.Run.{error_line}
 
 -- Why a round wasn't run, if that is so.
-abbrev pub error_text : Option RunError → List ℕ
+abbrev pub error_text : Option RunFault → List ℕ
 error_text None = []
 error_text (Some e) = error_line e
 

@@ -3,7 +3,7 @@
 //! - [`Report`] is an answer to an input. It has one case for each part of the program that answers: [`FaultyInput`],
 //!   [`ReachAnswer`], [`Verdict`], [`ClashesAnswer`] and [`RunAnswer`].
 //! - [`Mended`] has lines that were found for profiles.
-//! - [`Run`] is what the jobs of a safe set did and left; [`RunError`] is why they weren't run.
+//! - [`Run`] is what the jobs of a safe set did and left.
 //! - [`RoundsRun`] is what the jobs of a set did and left that were run by rounds.
 //! - [`lines_of_jobs`] are the lines that say what jobs did.
 //! - [`lines_of_clashes`] are the lines of all that clashes in a set, and [`text_of_rounds`] is the text of its rounds.
@@ -46,7 +46,7 @@
 //!
 //! # What is not
 //!
-//! When an answer is right. What [`Told`] says of it. What `undecided_pairs` gives goes to standard error, which no contract sees.
+//! When an answer is right is said in `hub_serve`. What [`Told`] says is only tested. What `undecided_pairs` gives goes to standard error, which no contract sees.
 #![tactic(auto)]
 
 mod blocks;
@@ -81,7 +81,7 @@ pub use refusal::lines_of_clashes;
 pub use report::{OUT_OF_MEMORY, Report};
 pub use rounds::{Cut, text_of_rounds};
 pub use rounds_run::RoundsRun;
-pub use run::{Run, RunError};
+pub use run::Run;
 pub use run_answer::RunAnswer;
 pub use told::{Answer, NotRun, Refusal, Told, ToldMended};
 pub use undecided::undecided_pairs;

@@ -4,7 +4,8 @@ ghost use Rattle.hub_report.specs.Blocks.{bytes_in};
 ghost use Rattle.hub_report.specs.RoundsRun as spec;
 
 use crate::blocks::Blocks;
-use crate::run::{RunError, error_line, with_state};
+use crate::run::{error_line, with_state};
+use hub_job::RunFault;
 use hub_state::State;
 use std::alloc::{AllocError, Global};
 
@@ -20,7 +21,7 @@ pub struct RoundsRun {
     /// Whether all rounds were run and all jobs are finished.
     pub finished: bool,
     /// Why a round wasn't run, if that is so.
-    pub error: Option<RunError>,
+    pub error: Option<RunFault>,
 }
 
 /// How many rounds there are, the lines of the jobs of those that were run, why the next one wasn't, and the state that they left.
@@ -58,7 +59,7 @@ fn text_above(
 }
 
 /// The line that says why a round wasn't run, if that is so.
-fn error_text(alloc: Global, error: &Option<RunError>) -> Result<String, AllocError>
+fn error_text(alloc: Global, error: &Option<RunFault>) -> Result<String, AllocError>
     ensures { IfOk result (λ t. string_bytes t ≡ spec.error_text error.now) }
 {
     match error {

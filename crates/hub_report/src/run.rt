@@ -7,11 +7,11 @@ ghost use Rattle.hub_report.specs.Run as runs;
 use crate::blocks::Blocks;
 use crate::parts::joined;
 use crate::told::NotRun;
+use hub_job::RunFault;
 use hub_path::Root;
 use hub_state::{State, write_state};
 use hub_text::Watched;
 use std::alloc::{AllocError, Global};
-use thiserror::Error;
 
 /// What the jobs of a safe set did, and what they left.
 #[derive(Drop)]
@@ -24,37 +24,12 @@ pub struct Run {
     pub finished: bool,
 }
 
-/// Why the jobs of a safe set weren't run, but for lack of memory. It is shown as the fault's name, as in `NoWorkers`.
-#[derive(Debug, Drop, Error)]
-pub enum RunError {
-    /// There are no workers.
-    #[error("NoWorkers")]
-    NoWorkers,
-    /// There are more workers than hub_runner's `WORKERS`.
-    #[error("TooManyWorkers")]
-    TooManyWorkers,
-    /// The state has no replica of this root.
-    #[error("MissingReplica")]
-    MissingReplica(Root),
-    /// A thread can't be started.
-    #[error("ThreadRefused")]
-    ThreadRefused,
-    /// A job was there twice, missing or foreign. Tests show none.
-    #[error("Stranger")]
-    Stranger,
-    /// A root's history and the logs of the jobs didn't fit. Tests show none.
-    #[error("Mismatch")]
-    Mismatch,
-}
-
-impl RunError {
-    /// What it tells.
-    pub(crate) fn told(&self) -> NotRun {
-        match self {
-            RunError::NoWorkers | RunError::TooManyWorkers => NotRun::BadWorkers,
-            RunError::ThreadRefused => NotRun::ThreadRefused,
-            RunError::MissingReplica(_) | RunError::Stranger | RunError::Mismatch => NotRun::Unfit,
-        }
+/// What it tells that jobs weren't run for this reason.
+pub(crate) fn not_run(fault: &RunFault) -> NotRun {
+    match fault {
+        RunFault::NoWorkers | RunFault::TooManyWorkers => NotRun::BadWorkers,
+        RunFault::ThreadRefused => NotRun::ThreadRefused,
+        _ => NotRun::Unfit,
     }
 }
 
@@ -88,24 +63,26 @@ fn below_safe(lines: String) -> Result<Vec<u8>, AllocError>
 }
 
 /// `safe`, and below it the line that says why the jobs weren't run.
-pub fn text_of_error(alloc: Global, error: &RunError) -> Result<Blocks, AllocError>
-    ensures { IfOk result (λ t. bytes_in t ≡ codes "safe\n" ++ runs.error_line error.now) }
+pub fn text_of_error(alloc: Global, fault: &RunFault) -> Result<Blocks, AllocError>
+    ensures { IfOk result (λ t. bytes_in t ≡ codes "safe\n" ++ runs.error_line fault.now) }
 {
-    let line = error_line(alloc, error)?;
+    let line = error_line(alloc, fault)?;
     Blocks::new(alloc, below_safe(line)?)
 }
 
 /// The line that says why jobs weren't run.
-pub(crate) fn error_line(alloc: Global, error: &RunError) -> Result<String, AllocError>
-    ensures { IfOk result (λ t. string_bytes t ≡ runs.error_line error.now) }
+pub(crate) fn error_line(alloc: Global, fault: &RunFault) -> Result<String, AllocError>
+    ensures { IfOk result (λ t. string_bytes t ≡ runs.error_line fault.now) }
 {
-    match error {
-        RunError::NoWorkers => String::from_str(alloc, "run fault: NoWorkers\n"),
-        RunError::TooManyWorkers => String::from_str(alloc, "run fault: TooManyWorkers\n"),
-        RunError::MissingReplica(root) => missing_line(alloc, root),
-        RunError::ThreadRefused => String::from_str(alloc, "run fault: ThreadRefused\n"),
-        RunError::Stranger => String::from_str(alloc, "run fault: Stranger\n"),
-        RunError::Mismatch => String::from_str(alloc, "run fault: Mismatch\n"),
+    match fault {
+        RunFault::NoWorkers => String::from_str(alloc, "run fault: NoWorkers\n"),
+        RunFault::TooManyWorkers => String::from_str(alloc, "run fault: TooManyWorkers\n"),
+        RunFault::MissingReplica { root } => missing_line(alloc, root),
+        RunFault::Mismatch { .. } => String::from_str(alloc, "run fault: Mismatch\n"),
+        RunFault::BadTurn { .. } => String::from_str(alloc, "run fault: BadTurn\n"),
+        RunFault::ThreadRefused => String::from_str(alloc, "run fault: ThreadRefused\n"),
+        RunFault::Stranger { .. } => String::from_str(alloc, "run fault: Stranger\n"),
+        RunFault::OutOfMemory => String::from_str(alloc, "run fault: OutOfMemory\n"),
     }
 }
 

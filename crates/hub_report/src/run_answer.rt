@@ -5,8 +5,9 @@ ghost use Rattle.hub_report.specs.RunAnswer as spec;
 
 use crate::blocks::Blocks;
 use crate::rounds_run::{RoundsRun, text_of_rounds_run};
-use crate::run::{Run, RunError, text_of_error, text_of_run};
+use crate::run::{Run, not_run, text_of_error, text_of_run};
 use crate::told::{Answer, Told};
+use hub_job::RunFault;
 use std::alloc::{AllocError, Global};
 
 /// What came of a run.
@@ -17,7 +18,7 @@ pub enum RunAnswer {
     /// The rounds of the set were run one after another on the bundle's state.
     RanByRounds(RoundsRun),
     /// The profiles may run at the same time. Their jobs weren't run.
-    NotRun(RunError),
+    NotRun(RunFault),
 }
 
 impl RunAnswer {
@@ -58,10 +59,10 @@ impl RunAnswer {
         match self {
             RunAnswer::Ran(_) => Told::Yes,
             RunAnswer::RanByRounds(run) => match &run.error {
-                Some(error) if run.lines.is_empty() => Told::NotRun(error.told()),
+                Some(error) if run.lines.is_empty() => Told::NotRun(not_run(error)),
                 _ => Told::Yes,
             },
-            RunAnswer::NotRun(error) => Told::NotRun(error.told()),
+            RunAnswer::NotRun(error) => Told::NotRun(not_run(error)),
         }
     }
 }

@@ -30,8 +30,8 @@ use Rattle.hub_schedule.specs.Simulated.{AreFinished}
 use Rattle.hub_runner.specs.Working.{AreWorkers, MayRun}
 use Rattle.hub_report.specs.Jobs.{lines_of_jobs}
 use Rattle.hub_report.specs.declared.rounds_run.RoundsRun.{RoundsRun}
-use Rattle.hub_report.specs.declared.run.RunError.{RunError}
-use Rattle.hub_report.specs.declared.run.RunError.TheVariants as error
+use Rattle.hub_job.specs.declared.run_fault.RunFault.{RunFault}
+use Rattle.hub_job.specs.declared.run_fault.RunFault.TheVariants as error
 use Rattle.hub_serve.specs.declared.run.Attempt.{Attempt}
 use Rattle.hub_serve.specs.declared.run.Attempt.TheVariants.{Ran, NotRun}
 use Rattle.hub_serve.specs.Rounds.{HasUnverifiedRound, IsUncut}
@@ -125,15 +125,12 @@ ended Rs n S rounds many r w s e =
     }
 
 -- None was run, since so many workers may not run.
-few-or-many : (n : ℕ) (e : RunError) → RefusesWorkers n e → AreWorkers n → ⊥
+few-or-many : (n : ℕ) (e : RunFault) → RefusesWorkers n e → AreWorkers n → ⊥
 few-or-many n error.NoWorkers r w = let few = w.0 in omega (arith, r, few)
 few-or-many n error.TooManyWorkers r w = let many = w.1 in omega (arith, r, many)
-few-or-many n (error.MissingReplica root) r w = r
-few-or-many n error.ThreadRefused r w = r
-few-or-many n error.Stranger r w = r
-few-or-many n error.Mismatch r w = r
+few-or-many n _ r w = r
 
-pub none-run : (Rs : List Rule) (n : ℕ) (rounds : List (List Parts)) (r : RoundsRun) (e : RunError) → r.rounds ≡ length rounds → string_bytes r.lines ≡ []
+pub none-run : (Rs : List Rule) (n : ℕ) (rounds : List (List Parts)) (r : RoundsRun) (e : RunFault) → r.rounds ≡ length rounds → string_bytes r.lines ≡ []
     → r.finished ≡ false → r.error ≡ Some e → RefusesWorkers n e → HaveRun Rs n r.state rounds r
 none-run Rs n rounds r e found lines unfinished is refused = record {
   outcomes = [];

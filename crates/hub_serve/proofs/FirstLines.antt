@@ -22,7 +22,7 @@ use Rattle.hub_report.specs.declared.run_answer.RunAnswer.TheVariants.{Ran, RanB
 use Rattle.hub_report.specs.declared.verdict.Verdict.{Verdict}
 use Rattle.hub_report.specs.declared.verdict.Verdict.TheVariants.{Safe, Verified, Certified}
 use Rattle.hub_report.specs.declared.run.Run as run
-use Rattle.hub_report.specs.declared.run.RunError.{RunError}
+use Rattle.hub_job.specs.declared.run_fault.RunFault.{RunFault}
 use Rattle.hub_report.specs.Report.{status_of, text_of}
 use Rattle.hub_report.specs.ClashesAnswer as clashes
 use Rattle.hub_report.specs.ReachAnswer as reach
@@ -86,7 +86,7 @@ ran-below t M r h =
     ))
 
 -- or why they weren't run.
-error-below : (t : Task) (M : Members) (f : RunError) → IsPrevented t M f → IsBelow t M 3 (error_line f)
+error-below : (t : Task) (M : Members) (f : RunFault) → IsPrevented t M f → IsBelow t M 3 (error_line f)
 error-below t M f h =
     subst (λ u. IsBelow u M 3 (error_line f)) (sym h.task_is) (inr (record { error = f; reason = h.reason; text = refl; status_is = refl }))
 

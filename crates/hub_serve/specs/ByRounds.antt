@@ -21,8 +21,8 @@ use Rattle.hub_rounds.specs.declared.subject.Subject.{Subject}
 use Rattle.hub_rounds.specs.declared.subject.Subject.TheVariants.{Pair, Alone, Nothing}
 use Rattle.hub_report.specs.Jobs.{lines_of_jobs}
 use Rattle.hub_report.specs.declared.rounds_run.RoundsRun.{RoundsRun}
-use Rattle.hub_report.specs.declared.run.RunError.{RunError}
-use Rattle.hub_report.specs.declared.run.RunError.TheVariants as error
+use Rattle.hub_job.specs.declared.run_fault.RunFault.{RunFault}
+use Rattle.hub_job.specs.declared.run_fault.RunFault.TheVariants as error
 use Rattle.hub_serve.specs.declared.run.Attempt.{Attempt}
 use Rattle.hub_serve.specs.declared.run.Attempt.TheVariants.{Ran, NotRun}
 use Rattle.hub_serve.specs.declared.task.Task.{Task}
@@ -68,7 +68,7 @@ not_run rounds os = drop (length os) rounds
 -- An error is why the next round, which there is, wasn't run on the state that the last one left.
 -- All jobs before it are finished.
 pub record IsPreventedAfter (Rs : List Rule) (n : ℕ) (S : State) (rounds : List (List Parts))
-    (os : List Outcome) (e : RunError) : Type 0 where
+    (os : List Outcome) (e : RunFault) : Type 0 where
   pub finished : AllFinished os
   pub next : List Parts
   pub later : List (List Parts)
@@ -77,17 +77,14 @@ pub record IsPreventedAfter (Rs : List Rule) (n : ℕ) (S : State) (rounds : Lis
   pub reason : PreventsRun (final_state S os) next n e
 
 -- The number of workers is why no round is run: there are none, or too many.
-abbrev pub RefusesWorkers : ℕ → RunError → Type 0
+abbrev pub RefusesWorkers : ℕ → RunFault → Type 0
 RefusesWorkers n error.NoWorkers = n ≡ 0
 RefusesWorkers n error.TooManyWorkers = WORKERS < n
-RefusesWorkers n (error.MissingReplica root) = ⊥
-RefusesWorkers n error.ThreadRefused = ⊥
-RefusesWorkers n error.Stranger = ⊥
-RefusesWorkers n error.Mismatch = ⊥
+RefusesWorkers n _ = ⊥
 
 -- Why no more rounds were run. Without an error all were run, or a job of the last one that was run
 -- isn't finished. With one the number of workers is why none was run, or the next one wasn't.
-abbrev pub Ends : List Rule → ℕ → State → List (List Parts) → List Outcome → Option RunError
+abbrev pub Ends : List Rule → ℕ → State → List (List Parts) → List Outcome → Option RunFault
     → Type 0
 Ends Rs n S rounds os None = AreWorkers n × ((not_run rounds os ≡ []) ⊎ (AllFinished os → ⊥))
 Ends Rs n S rounds os (Some e) =

@@ -1,6 +1,6 @@
 -- What is written below `safe` if jobs are to be run.
-use Rattle.std.specs.Prelude.{◌≡◌, ◌≢◌, ◌⊎◌, ◌↔◌, ◌<◌, ◌++◌, ℕ, true, List, [], map, string_bytes}
-use Rattle.std.specs.Prelude.{Option, None, Some, Result, Ok, Err, alloc_error}
+use Rattle.std.specs.Prelude.{◌≡◌, ◌≢◌, ◌⊎◌, ◌↔◌, ◌++◌, ℕ, true, List, [], map, string_bytes}
+use Rattle.std.specs.Prelude.{Result, Ok, Err, alloc_error}
 use Rattle.std.specs.declared.alloc.AllocError.{AllocError}
 use Rattle.hub_profile.specs.Parts.{Parts}
 use Rattle.hub_cert.specs.Set.{Members, IsSafeSet, forbidden_by}
@@ -8,14 +8,10 @@ use Rattle.hub_state.specs.State.{State}
 use Rattle.hub_state.specs.Writing.{state_text}
 use Rattle.hub_job.specs.declared.outcome.Outcome.{Outcome}
 use Rattle.hub_job.specs.declared.run_fault.RunFault.{RunFault}
-use Rattle.hub_job.specs.declared.run_fault.RunFault.TheVariants as unrun
-use Rattle.hub_schedule.specs.Refusals.{first_missing}
+use Rattle.hub_job.specs.declared.run_fault.RunFault.TheVariants as fault
 use Rattle.hub_schedule.specs.Simulated.{AreFinished, HaveEnded, IsPromised}
-use Rattle.hub_runner.specs.Working.{AreWorkers, IsNotRun, MayRun}
-use Rattle.hub_runner.specs.declared.runs.TheConstants.{WORKERS}
+use Rattle.hub_runner.specs.Working.{IsNotRun, MayRun}
 use Rattle.hub_report.specs.declared.run.Run.{Run}
-use Rattle.hub_report.specs.declared.run.RunError.{RunError}
-use Rattle.hub_report.specs.declared.run.RunError.TheVariants as fault
 use Rattle.hub_report.specs.declared.run_answer.RunAnswer.{RunAnswer}
 use Rattle.hub_report.specs.declared.run_answer.RunAnswer.TheVariants as answer
 use Rattle.hub_report.specs.Jobs.{lines_of_jobs}
@@ -42,37 +38,21 @@ pub record HasRun (M : Members) (S : State) (r : Run) : Type 0 where
   pub left : r.state ≡ outcome.state
   pub finished : r.finished ≡ true ↔ AreFinished outcome.jobs
 
--- Why the jobs of profiles aren't run on a state by n workers. The first of these that applies:
--- there are no workers, or too many; a replica is missing; a thread is refused. A stranger and a
--- mismatch are faults that no test shows.
-abbrev pub PreventsRun : State → List Parts → ℕ → RunError → Type 0
-PreventsRun S Ps n fault.NoWorkers = n ≡ 0
-PreventsRun S Ps n fault.TooManyWorkers = WORKERS < n
-PreventsRun S Ps n (fault.MissingReplica root) = AreWorkers n × (first_missing S Ps ≡ Some root)
-PreventsRun S Ps n fault.ThreadRefused = MayRun S Ps n
-PreventsRun S Ps n fault.Stranger = MayRun S Ps n
-PreventsRun S Ps n fault.Mismatch = MayRun S Ps n
+-- Why the jobs of profiles aren't run on a state by n workers, where that is told: for lack of memory
+-- it isn't.
+abbrev pub PreventsRun : State → List Parts → ℕ → RunFault → Type 0
+PreventsRun S Ps n fault.OutOfMemory = ⊥
+PreventsRun S Ps n f = IsNotRun S Ps n f
+
+-- What the attempt is then. A bad turn is of schedules alone.
+abbrev pub attempt_of : RunFault → Result Attempt AllocError
+attempt_of (fault.BadTurn turn) = Err alloc_error
+attempt_of fault.OutOfMemory = Err alloc_error
+attempt_of f = Ok (NotRun f)
 
 -- The claim holds of what was to be run, where this is why it wasn't.
-abbrev pub OfUnrun : RunFault → (State → List Parts → ℕ → Type 0) → Type 0
-OfUnrun fault C = (S : State) (Ps : List Parts) (n : ℕ) → IsNotRun S Ps n fault → C S Ps n
-
--- What is told of jobs that weren't run. A bad turn is of schedules alone, and with no memory
--- nothing is told.
-abbrev pub error_of : RunFault → Option RunError
-error_of unrun.NoWorkers = Some fault.NoWorkers
-error_of unrun.TooManyWorkers = Some fault.TooManyWorkers
-error_of (unrun.MissingReplica root) = Some (fault.MissingReplica root)
-error_of (unrun.Mismatch root job history log) = Some fault.Mismatch
-error_of (unrun.BadTurn turn) = None
-error_of unrun.ThreadRefused = Some fault.ThreadRefused
-error_of (unrun.Stranger job) = Some fault.Stranger
-error_of unrun.OutOfMemory = None
-
--- What the attempt is then.
-abbrev pub attempt_of : Option RunError → Result Attempt AllocError
-attempt_of None = Err alloc_error
-attempt_of (Some e) = Ok (NotRun e)
+abbrev pub OfUnrun : RunFault → (Members → State → ℕ → Type 0) → Type 0
+OfUnrun f C = (M : Members) (S : State) (n : ℕ) → IsNotRun S M.profiles n f → C M S n
 
 -- What comes of an attempt to run the jobs of a set on a state by n workers.
 abbrev pub ComesOf : Members → State → ℕ → Attempt → Type 0
@@ -99,7 +79,7 @@ pub record HasRunAs (t : Task) (M : Members) (r : Run) : Type 0 where
   pub run : HasRun M state r
 
 -- or weren't, for this reason.
-pub record IsPrevented (t : Task) (M : Members) (e : RunError) : Type 0 where
+pub record IsPrevented (t : Task) (M : Members) (e : RunFault) : Type 0 where
   pub workers : ℕ
   pub state : State
   pub task_is : t ≡ task.RunJobs workers state
@@ -117,7 +97,7 @@ pub record WritesRun (M : Members) (S : State) (status : ℕ) (below : List ℕ)
 
 -- This is the line that says why n workers didn't run them. The status is 3.
 pub record WritesError (M : Members) (S : State) (n status : ℕ) (below : List ℕ) : Type 0 where
-  pub error : RunError
+  pub error : RunFault
   pub reason : PreventsRun S M.profiles n error
   pub text : below ≡ error_line error
   pub status_is : status ≡ 3

@@ -14,8 +14,9 @@ ghost use Rattle.hub_serve.specs.declared.task.Task.TheVariants as task;
 use crate::progress::{Goals, Progress};
 use crate::run::{Attempt, run_jobs};
 use hub_cert::{CheckFault, ProfileSet};
+use hub_job::RunFault;
 use hub_profile::{Profile, Rules};
-use hub_report::{Report, RoundsRun, RunAnswer, RunError};
+use hub_report::{Report, RoundsRun, RunAnswer};
 use hub_rounds::{Clashes, Rounds, RoundsFault, Subject, clashes_of, rounds_of, subject_of};
 use hub_runner::WORKERS;
 use hub_search::check_with_progress;
@@ -146,15 +147,15 @@ fn run_rounds<T: Threads + Wait + Sync, P: Progress + Sync>(
 }
 
 /// Says why so many workers run no round, or `None` if they may.
-fn refused_workers(workers: u8) -> Option<RunError>
+fn refused_workers(workers: u8) -> Option<RunFault>
     ensures some { IfSome result (RefusesWorkers workers) }
     ensures none { result ≡ None → AreWorkers workers }
 {
     if workers == 0 {
-        return Some(RunError::NoWorkers);
+        return Some(RunFault::NoWorkers);
     }
     if usize::from(workers) > WORKERS {
-        return Some(RunError::TooManyWorkers);
+        return Some(RunFault::TooManyWorkers);
     }
     None
 }

@@ -1,19 +1,19 @@
 //! Runs of the jobs of a safe set.
-ghost use Rattle.std.specs.Prelude.{◌≡◌, ◌↔◌, ℕ, true, IfErr, IfOk, IfSome, None};
+ghost use Rattle.std.specs.Prelude.{◌≡◌, ◌↔◌, ℕ, true, IfErr, IfOk, None};
 ghost use Rattle.hub_cert.specs.Set.{IsSafeSet, Members};
 ghost use Rattle.hub_state.specs.State.{State};
 ghost use Rattle.hub_schedule.specs.Simulated.{AreFinished, HaveEnded};
 ghost use Rattle.hub_runner.specs.Working.{IsNotRun, MayRun};
 ghost use Rattle.hub_report.specs.Report.{unread_by};
 ghost use Rattle.hub_serve.specs.Told.{IsToldAnyway};
-ghost use Rattle.hub_serve.specs.Runs.{ComesOf, HasRun, IsPromisedOf, IsRunOn, OfAttempt, OfUnrun, PreventsRun, answer_of, attempt_of, error_of};
+ghost use Rattle.hub_serve.specs.Runs.{ComesOf, HasRun, IsPromisedOf, IsRunOn, OfAttempt, OfUnrun, answer_of, attempt_of};
 ghost use Rattle.hub_serve.specs.declared.task.Task.TheVariants as task;
 
 use crate::progress::{Jobs, Progress};
 use hub_cert::Verified;
 use hub_job::{End, JobEnd, Outcome, RunFault};
 use hub_profile::Profile;
-use hub_report::{Report, Run, RunAnswer, RunError, lines_of_jobs};
+use hub_report::{Report, Run, RunAnswer, lines_of_jobs};
 use hub_runner::run;
 use hub_state::State;
 use std::alloc::{AllocError, Global};
@@ -26,7 +26,7 @@ pub enum Attempt {
     /// They were run.
     Ran(Run),
     /// They weren't, for this reason.
-    NotRun(RunError),
+    NotRun(RunFault),
 }
 
 /// Runs the jobs of a safe set on a state, by that many workers, and returns the answer.
@@ -96,31 +96,14 @@ fn run_watched<T: Threads + Wait + Sync, P: Progress + Sync>(
     run(rt, alloc, verified, state, workers, &jobs)
 }
 
-/// Why the jobs weren't run, or that memory is out.
+/// Why the jobs weren't run, or that memory is out: `run` returns no `BadTurn`, which is of schedules alone.
 fn not_run(fault: RunFault) -> Result<Attempt, AllocError>
-    ensures came { (M : Members) (S : State) (n : ℕ) → IsNotRun S M.profiles n fault
-        → IfOk result (ComesOf M S n) }
-    ensures told { result ≡ attempt_of (error_of fault) }
-{
-    match run_error(fault) {
-        Some(error) => Ok(Attempt::NotRun(error)),
-        None => Err(AllocError),
-    }
-}
-
-/// Why the jobs weren't run. A `None` is that memory is out: `run` returns no `BadTurn`, which is of schedules alone.
-fn run_error(fault: RunFault) -> Option<RunError>
-    ensures told { result ≡ error_of fault }
-    ensures reason { OfUnrun fault (λ S Ps n. IfSome result (PreventsRun S Ps n)) }
+    ensures came { OfUnrun fault (λ M S n. IfOk result (ComesOf M S n)) }
+    ensures told { result ≡ attempt_of fault }
 {
     match fault {
-        RunFault::NoWorkers => Some(RunError::NoWorkers),
-        RunFault::TooManyWorkers => Some(RunError::TooManyWorkers),
-        RunFault::MissingReplica { root } => Some(RunError::MissingReplica(root)),
-        RunFault::ThreadRefused => Some(RunError::ThreadRefused),
-        RunFault::Stranger { .. } => Some(RunError::Stranger),
-        RunFault::Mismatch { .. } => Some(RunError::Mismatch),
-        RunFault::BadTurn { .. } | RunFault::OutOfMemory => None,
+        RunFault::BadTurn { .. } | RunFault::OutOfMemory => Err(AllocError),
+        _ => Ok(Attempt::NotRun(fault)),
     }
 }
 

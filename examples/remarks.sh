@@ -233,7 +233,7 @@ ask_table() {
     [ "$part" = between ] || complain 'the last case has no status'
 }
 
-# Of an input of 3 MB, a line near its start is shown, and none near its end.
+# Of an input of 3 MB, a line near its start is shown, and none near its end. Of a safe one of 100 KB, none was added.
 ask_long() {
     local comments
     comments=$(yes '# 30 characters in each line ..' | head -n 100000 || true)
@@ -244,6 +244,9 @@ ask_long() {
     printf '%s\n' '%profile p' "$comments" 'root /srv/hub' >"$room/input"
     echo 'fault: profile p line 100001: NoEquals' >"$room/wanted"
     ask 'a fault at the end of a long input' 2 hubsync
+    printf '%s\n' '%profile p' 'root = /srv/hub' 'root = /srv/s1' "${comments:0:100000}" >"$room/input"
+    echo '%profile p' >"$room/wanted"
+    ask 'no lines for a long bundle that is safe' 0 hubsync mend --bundle
 }
 
 # Lines and profiles too many.

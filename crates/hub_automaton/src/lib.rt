@@ -16,7 +16,7 @@
 //!
 //! The contracts use the words of `specs/Alphabet` (classes) and `specs/Spots` (the state after a text). `specs/forms/Stepping`
 //! defines a step position by position, `specs/Masks` and `specs/Words` for 64 positions at once, and `specs/forms/Rows` for many
-//! words at once. `specs/Alike` says which characters may be treated alike, `specs/Varied` at which positions a class is told
+//! words at once. `specs/Alike` says which characters may be treated alike, `specs/Varied` at which positions a class differs
 //! from class 0, `specs/Distinguishing` what a class that isn't one leads to, and `specs/Ends` the masks of last positions.
 //!
 //! ```rust

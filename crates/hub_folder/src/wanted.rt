@@ -1,6 +1,6 @@
 //! The files that lines ask for, in their order.
 //!
-//! Nothing is stated of these names: they say which files are read. What a profile takes in is told by `hub_include::lines_of`.
+//! Nothing is stated of these names: they say which files are read. What a profile takes in is stated by `hub_include::lines_of`.
 
 use hub_include::{Asked, Folder, Found, asked_by, name_in};
 use hub_text::{Lines, without_last_cr};

@@ -32,7 +32,7 @@ pub struct FileLine<N, T> {
 /// A line of a file of a folder.
 pub(crate) type HeldLine<'a> = FileLine<&'a str, &'a [u8]>;
 
-/// What lines are told over.
+/// What the lines are read from.
 #[derive(Clone, Copy)]
 struct Walk<'a> {
     alloc: Global,

@@ -32,7 +32,7 @@ pub enum OpFault {
 #[derive(Debug, Drop, PartialEq, Eq)]
 pub enum Answer {
     /// To a `Look`: the mark of the path, the names of the children that the profile reaches, ascending, and whether there is a
-    /// child that it doesn't reach. That is told only where the profile writes the path.
+    /// child that it doesn't reach. That is reported only where the profile writes the path.
     Seen(Sight),
     /// To a `Fetch`: the file. Contracts see its bytes.
     Bytes(Blob),

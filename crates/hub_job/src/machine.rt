@@ -21,10 +21,10 @@ use std::alloc::{AllocError, Global};
 
 /// Makes an operation of a profile's job on the replica of a root, and returns its answer.
 ///
-/// A `Look` at a path that the profile reaches tells its mark, the names of those children that the profile reaches, in
-/// ascending order, and whether there are others; that is told only where the profile writes the path. At the parent of a
-/// kept value it tells whether that is a directory, and nothing else. At the whole replica, if that is kept, it tells the
-/// reached names. Elsewhere it tells `Absent`. A `Fetch` and a `Set` may be refused, and a refusal changes nothing.
+/// A `Look` at a path that the profile reaches returns its mark, the names of those children that the profile reaches, in
+/// ascending order, and whether there are others; that is reported only where the profile writes the path. At the parent of a
+/// kept value it returns whether that is a directory, and nothing else. At the whole replica, if that is kept, it tells the
+/// reached names. Elsewhere it returns `Absent`. A `Fetch` and a `Set` may be refused, and a refusal changes nothing.
 ///
 /// All memory is taken first: out of memory leaves the replica as it was.
 #[tactic(auto, unfolding(crate::specs::Machine::answer, crate::specs::Machine::after))]
@@ -105,7 +105,7 @@ fn sight_with(
     }
 }
 
-/// Returns whether others are told: where the profile writes at that path of the root.
+/// Returns whether others are reported: where the profile writes at that path of the root.
 fn are_told(profile: &Profile, root: &Root, path: &RelPath, others: bool) -> bool
     ensures { result ≡ (of_reach.writes_at profile.now root.now path.now && others) }
 {

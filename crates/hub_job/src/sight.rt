@@ -19,7 +19,7 @@ pub struct Sight {
     told: Told,
 }
 
-/// Where it is told.
+/// Where it is taken from.
 #[derive(Debug, Drop)]
 pub(crate) enum Told {
     /// With a file. There are no names and no others.

@@ -13,7 +13,7 @@ pub struct Look<'a> {
     pub names: &'a [Name],
     /// The mark of the path.
     pub mark: Mark,
-    /// Whether the path has children that the profile doesn't reach. It is told only if the profile writes the path.
+    /// Whether the path has children that the profile doesn't reach. It is reported only if the profile writes the path.
     pub others: bool,
 }
 

@@ -41,7 +41,7 @@
 //!   says why; each other one stands in exactly one round; no two profiles of a round have a line; no round is empty; the profiles
 //!   of a round and the rules are a safe set; each two rivals have a line, and no other profile of a round has lines with all of
 //!   them.
-//! - `NotVerified` comes only with a round that the check refuses, and not for want of memory.
+//! - `NotVerified` comes only with a round that the check refuses, and not where memory is out.
 //!
 //! # What is not
 //!

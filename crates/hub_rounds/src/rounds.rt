@@ -36,7 +36,7 @@ pub struct Rounds {
 /// Cuts a set into rounds, by what clashes in it. The profiles and rules of a round are a safe set, which the check has verified.
 ///
 /// A profile is left out exactly if a line says that it breaks a rule by itself, or that the rule's goal is too large; the first
-/// breach is told, if there is one. Each other profile is in exactly one round. Two profiles that a line names are in different rounds,
+/// breach is reported, if there is one. Each other profile is in exactly one round. Two profiles that a line names are in different rounds,
 /// also if their goal is too large. Tests show that the rounds, in the order of their first profiles, are the fewest, and the
 /// rivals the most, if at most 24 profiles are in rounds.
 ///

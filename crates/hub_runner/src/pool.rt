@@ -99,7 +99,7 @@ fn send_all<'a, R: Wait>(
 
 /// Starts a worker for each list of seats, and waits until all have ended. None if a thread can't be started.
 ///
-/// After the first thread is started nothing may return before all are told to end, or the scope waits for ever.
+/// After the first thread is started nothing may return before all have the word to end, or the scope waits for ever.
 fn run_workers<'a, G: Gate + Sync, R: Threads + Wait + Sync>(
     rt: &R,
     gate: &G,
@@ -172,7 +172,7 @@ fn stop_all<R: Wait>(rt: &R, channels: &Channels<'_>, workers: usize) {
     }
 }
 
-/// Tells a worker to end, again until it is told.
+/// Tells a worker to end, again until it has the word.
 fn stop_one<R: Wait>(rt: &R, channels: &Channels<'_>) {
     for _ in rt.forever() {
         if unsent(rt, &channels.to_workers, Message::Stop).is_none() {

@@ -62,7 +62,7 @@ pub(crate) struct Channels<'a> {
     pub(crate) ended: Receiver<Ended<'a>>,
 }
 
-/// Steps the jobs that are sent, until it is told to end. It has a seat at each desk, by the number of the desk, and returns
+/// Steps the jobs that are sent, until it gets the word to end. It has a seat at each desk, by the number of the desk, and returns
 /// them.
 pub(crate) fn work<'a, G: Gate, R: Wait>(
     rt: &R,
@@ -84,7 +84,7 @@ pub(crate) fn work<'a, G: Gate, R: Wait>(
     unreachable!()
 }
 
-/// Makes some steps of a job, and sends it on, or back if it has ended: then the gate is told so. A job that can't be sent on is stepped further.
+/// Makes some steps of a job, and sends it on, or back if it has ended: then the gate hears of it. A job that can't be sent on is stepped further.
 fn step_and_send<'a, G: Gate, R: Wait>(
     rt: &R,
     gate: &G,

@@ -132,7 +132,7 @@ fn refuse<T: Eprint, W: Write>(rt: &T, error: &Error, output: &mut Watched<W>) -
     if error.kind() == ErrorKind::OutOfMemory {
         return Served {
             status: write_out_of_memory(output),
-            told: Told::Nothing,
+            told: Told::Other,
         };
     }
     // if standard error fails too, there is nobody left to tell

@@ -28,7 +28,7 @@ impl<'t> Changes<'t> {
         self.field(word, to).is_some()
     }
 
-    /// What stands behind a change to the root or the job, if there is one.
+    /// What follows a change to the root or the job, if there is one.
     pub(crate) fn field(&self, word: &str, to: &str) -> Option<&'t str> {
         for change in self.text.split("; ") {
             let (first, fields) = cut(change);

@@ -14,7 +14,7 @@
 //!   them fails (`writing`).
 //! - `blanks COUNT SIZE`: how often so many blanks are read, if they come in pieces of that size, and what is written.
 //! - `endless SIZE`: the same for blanks that don't end.
-//! - `progress WORDS`: the status, and how often a progress is told of goals, of jobs, and that it is over (`progress`). The last
+//! - `progress WORDS`: the status, and how often a progress hears of goals, of jobs, and that it is over (`progress`). The last
 //!   comes once, before all that is written.
 //!
 //! An answer is its status and its first three lines. `..` stands for further ones.

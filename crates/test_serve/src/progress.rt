@@ -1,4 +1,4 @@
-//! What a progress is told while an answer is found.
+//! What a progress hears while an answer is found.
 
 use crate::devices::Pieces;
 use anyhow::Result;
@@ -11,7 +11,7 @@ use std::sync::Wait;
 use std::sync::atomic::{AtomicUsize, Ordering};
 use std::thread::Threads;
 
-/// Counts what it is told.
+/// Counts what it hears.
 #[derive(Drop)]
 struct Told {
     /// How often it was told of a goal, and how many goals there are.
@@ -87,7 +87,7 @@ impl<'a> Write for AfterAll<'a> {
     }
 }
 
-/// The status, and what a progress is told. The status is 2 if something is written before the progress is over.
+/// The status, and what a progress hears. The status is 2 if something is written before the progress is over.
 pub(crate) fn answer<T: AllocGlobal + Eprint + Threads + Wait + Sync>(
     rt: &T,
     words: &str,

@@ -1,9 +1,9 @@
 # shellcheck shell=bash
-# The head of the scripts of this folder: they read this file with `source`, which leaves it their own arguments.
+# The head of the scripts of this folder and of tests/fail.sh: they read this file with `source`, which leaves it their own arguments.
 #
 # It sets `script` and `top`, and `program` and `repetitions` by the arguments: the program of the crate `crate`, which is `hubsync`
 # if nothing else is said, and 5. It makes `folder`, which is gone at the end.
-script=bench/$(basename "$0")
+script=$(basename "$(dirname "$(readlink -f "$0")")")/$(basename "$0")
 top=$(dirname "$(dirname "$(readlink -f "${BASH_SOURCE[0]}")")")
 
 # The place of a crate's program, as `./prove` builds it.

@@ -95,16 +95,16 @@ try_folder() {
     done
     : >"$room/hub/empty"
     cp "$room/hub/a/b" "$room/other spoke/a/b"
-    "$folder/state-of-folder.sh" "$room/other spoke" "$room/hub" -a "$room/hub" "$room/other spoke" >"$room/state"
+    "$folder/../tools/state-of-folder" "$room/other spoke" "$room/hub" -a "$room/hub" "$room/other spoke" >"$room/state"
     cat <(echo %state) "$room/state" | "$program" 2>/dev/null >"$room/answer" || true
     # the replicas change places: their roots' texts are in order then
-    cat <(echo safe) <("$folder/state-of-folder.sh" "$room/hub" "$room/other spoke" -a "$room/hub" "$room/other spoke") |
+    cat <(echo safe) <("$folder/../tools/state-of-folder" "$room/hub" "$room/other spoke" -a "$room/hub" "$room/other spoke") |
         cmp -s - "$room/answer"
 }
-# What `state-of-folder.sh` writes with its options, in a room of its own, where the folders `hub` and `laptop` had the files f1
+# What `state-of-folder` writes with its options, in a room of its own, where the folders `hub` and `laptop` had the files f1
 # and f2 alike before f1 was edited and f2 deleted.
 try_options() {
-    local script=$folder/state-of-folder.sh one two eleven
+    local script=$folder/../tools/state-of-folder one two eleven
     mkdir -p hub/d laptop/d
     printf 1 | tee hub/d/f1 >laptop/d/f1
     printf 2 | tee hub/d/f2 >laptop/d/f2
@@ -168,7 +168,7 @@ try_words() {
         'hub -a hub laptop -a laptop hub' '--archives earlier hub -a laptop hub'; do
         status=0
         # shellcheck disable=SC2086 # several words
-        "$folder/state-of-folder.sh" $words >state 2>said || status=$?
+        "$folder/../tools/state-of-folder" $words >state 2>said || status=$?
         [ "$status" = 2 ] && [ ! -s state ] && [ -s said ] || return 1
     done
 }
@@ -176,8 +176,8 @@ room=$(mktemp -d)
 trap 'rm -rf "$room"' EXIT
 try_folder "$room" || complain "the state text of a folder is answered by '$(head -1 "$room/answer")'"
 mkdir "$room/options"
-(cd -P "$room/options" && try_options) || complain 'state-of-folder.sh writes something else with its options'
-(cd -P "$room/options" && try_words) || complain 'state-of-folder.sh takes words that are wrong'
+(cd -P "$room/options" && try_options) || complain 'state-of-folder writes something else with its options'
+(cd -P "$room/options" && try_words) || complain 'state-of-folder takes words that are wrong'
 [ "$rows" -gt 0 ] || complain 'the table has no rows'
 [ "$given" -gt 0 ] || complain 'no bundle is safe'
 echo "examples: ${1:-hubsync} answered $rows, $wrong of them wrongly"

@@ -1,5 +1,5 @@
 #!/usr/bin/env bash
-# Tries items.sh and ./install, state-of-folder.sh on a state of version 2, and what unison-rounds reads in a folder of profiles. ./test
+# Tries the tools items and state-of-folder, ./install, a state of version 2, and what unison-rounds reads in a folder of profiles. ./test
 # calls this script.
 #
 #     examples/scripts.sh [PROGRAM]
@@ -227,7 +227,7 @@ LINES
 # The items of a run from version 1 to version 2, and those of a run from what it left to what it was given.
 try_items() {
     write_states
-    ask 0 items.sh given <left
+    ask 0 ../tools/items given <left
     compare 'items of two states' written <<'LINES'
 safe
 job to /hub empty finished
@@ -242,22 +242,22 @@ LINES
     cp written forward
     { printf '%s\n' '%profile p' 'root = /hub' 'root = /hub same' '%state'; sed '1,/^skip/d; /^to /d' left; } >bundle
     { sed '/^hubsync state/,$d' left; cat given; } >answer
-    ask 0 items.sh bundle <answer
+    ask 0 ../tools/items bundle <answer
     sed 's/^create/CREATE/; s/^delete/create/; s/^CREATE/delete/' forward >backward
     compare 'items of a bundle of version 2' written <backward
-    ask 1 items.sh given <answer
-    ask 1 items.sh nope <answer
+    ask 1 ../tools/items given <answer
+    ask 1 ../tools/items nope <answer
     echo 'fault: no state' >answer
-    ask 0 items.sh given <answer
+    ask 0 ../tools/items given <answer
     compare 'an answer without a state' written <answer
-    ask 2 items.sh <answer
+    ask 2 ../tools/items <answer
 }
 
 # The archive of an earlier state of version 2.
 try_archive() {
     mkdir hub
     sed -n '/^hubsync state /,$p' left >old
-    ask 0 state-of-folder.sh --archives old hub
+    ask 0 ../tools/state-of-folder --archives old hub
     grep -v '^replica ' written >archive
     compare 'an archive of version 2' archive <<LINES
 hubsync state 2
@@ -271,7 +271,7 @@ LINES
 # The items of an example, asked of the program.
 try_run() {
     "$program" run <"$folder/star.bundle" >answer 2>/dev/null
-    ask 0 items.sh "$folder/star.bundle" <answer
+    ask 0 ../tools/items "$folder/star.bundle" <answer
     grep -v '^job ' written >items
     compare 'items of star.bundle' items <<'LINES'
 safe
@@ -298,15 +298,15 @@ try_install() {
 ./share/hubsync/UnisonProfiles.pm
 ./share/hubsync/UnisonRoots.pm
 ./share/hubsync/UnisonRuns.pm
-./share/hubsync/items.sh
-./share/hubsync/state-of-folder.sh
+./share/hubsync/items
+./share/hubsync/state-of-folder
 ./share/hubsync/verify.py
 ./share/man/man1/hubsync.1
 ./share/zsh/site-functions/_hubsync
 LINES
     mkdir unison
     printf '%s\n' 'root = /srv/hub' 'root = /srv/desk' 'path = docs' >unison/desk.prf
-    local/share/hubsync/state-of-folder.sh unison >state || complain 'an installed script fails'
+    local/share/hubsync/state-of-folder unison >state || complain 'an installed script fails'
     local/bin/unison-rounds --only-check unison || complain 'an installed tool fails'
     echo mine >local/share/man/man1/other.1
     ask 0 ../install --uninstall --prefix "$room/local"

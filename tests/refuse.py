@@ -1,11 +1,11 @@
 #!/usr/bin/env python3
 """Runs the program, and the test programs, with each request for memory refused in turn, until a run makes no such request.
 
-    bench/refuse.py [--program PATH] [--only WORD]
+    tests/refuse.py [--program PATH] [--only WORD]
 
 Of PATH (crates/hubsync/out/hubsync) these are tried: `check`, `certify`, `verify` and `reach` on safe bundles and on those that
-are refused or faulty, and `run` by one, two and three workers on bundles with one, two and three jobs, in each thread. An answer is
-right if
+are refused or faulty, and `run` by one, two and three workers on bundles with one, two and three jobs, in each thread. Standard
+error has nothing but lines that begin a remark on the answer with ample memory, or one of SAID_OF_REFUSED. An answer is right if
 
 - it is that with ample memory;
 - it is `fault: out of memory`, status 2;
@@ -18,7 +18,7 @@ The test programs are asked the questions of QUESTIONS, each by itself. Their an
 are given, where memory for a step was refused and the next steps go on, or it is the error. Those that aren't built are left out,
 and named.
 
-A C compiler is needed for bench/refuse.c, which takes the place of `malloc`, `calloc`, `realloc` and `pthread_create`. One worker
+A C compiler is needed for tests/refuse.c, which takes the place of `malloc`, `calloc`, `realloc` and `pthread_create`. One worker
 makes the same requests in each run. With more, each number that a single worker comes to is tried once in each thread. As many runs go
 on at a time as there are processors. A line for each question counts the answers. The status is 1 if one was wrong.
 """
@@ -37,6 +37,11 @@ TOP = pathlib.Path(__file__).resolve().parent.parent
 NONE_EXPECTED = b'0 right\n'    # the last line of a test program whose question came without an answer
 OUT_OF_MEMORY = b'fault: out of memory\n'
 REFUSED = b'safe\nrun fault: ThreadRefused\n'
+# What is said where memory for a thread is refused, or memory for the input that notes are made of.
+SAID_OF_REFUSED = [
+    b'hubsync: the system gives no further thread: try --workers 1\n',
+    b'hubsync: note: the input is longer than what notes are made of: 1 MiB and 50,000 lines\n',
+]
 ROOTS = 'root = /srv/hub\nroot = /srv/s1\n'
 
 
@@ -45,9 +50,10 @@ class Runner:
 
     def __init__(self, folder):
         self.library = str(folder / 'refuse.so')
-        subprocess.run(['cc', '-O1', '-shared', '-fPIC', '-o', self.library, str(TOP / 'bench/refuse.c'), '-ldl'], check=True)
+        subprocess.run(['cc', '-O1', '-shared', '-fPIC', '-o', self.library, str(TOP / 'tests/refuse.c'), '-ldl'], check=True)
         self.lanes = os.cpu_count() or 1
         self.pool = concurrent.futures.ThreadPoolExecutor(self.lanes)
+        self.remarks = []   # on the answer with ample memory, the last one that was given
 
     def run(self, command, data, number=0, thread=0, threads=0):
         """Whether the request was refused, the status, the output and the errors."""
@@ -57,8 +63,11 @@ class Runner:
         os.close(theirs)
         said = os.read(ours, 1)
         os.close(ours)
-        # without the remarks on the answer
-        errors = b''.join(line for line in done.stderr.splitlines(True) if not line.startswith(b'hubsync: '))
+        lines = done.stderr.splitlines(True)
+        if number == 0:
+            self.remarks = [line for line in lines if line.startswith(b'hubsync: ')]
+        known = self.remarks + SAID_OF_REFUSED
+        errors = b''.join(line for line in lines if not any(remark.startswith(line) for remark in known))
         return said != b'', done.returncode, done.stdout, errors
 
     def each(self, command, data, judge, thread=0, threads=0, bound=None):

@@ -1,4 +1,4 @@
-/* Refuses one request for memory, for bench/refuse.py: that with the number REFUSE of the thread with the number THREAD. The first
+/* Refuses one request for memory, for tests/refuse.py: that with the number REFUSE of the thread with the number THREAD. The first
    thread is 0, and those that it starts are 1, 2 and so on. Says so by a byte on file REFUSE_FILE. A run takes a minute at most.
 
    A thread that is started waits until as many are there as THREADS says, for 20 ms at most, so that no worker has done all

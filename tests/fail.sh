@@ -6,7 +6,7 @@
 # bundle of two profiles with that state: there nothing stands before the line of the fault, and a failed write leaves a prefix. It
 # refuses each request for memory in a second, small bundle, too: there each of the two jobs brings a file to the other side.
 #
-# bench/refuse.py does this for the other commands, for one and three jobs, and for calls that the test programs make.
+# tests/refuse.py does this for the other commands, for one and three jobs, and for calls that the test programs make.
 #
 # `hubsync` runs two jobs, by one worker and by two. Its requests are numbered in each thread apart. A refused request of the first
 # thread gives the fault, unless it belongs to the start of a thread: then it should refuse the thread. A refused request of a worker
@@ -15,7 +15,7 @@
 # run, so there each of them is refused once. With two, it depends on the run which worker steps which job, and how many requests it
 # makes: each number that one worker comes to is tried once with either, and a run in which it isn't come to has the right text.
 #
-#     bench/fail.sh
+#     tests/fail.sh
 #
 # All must have been built, by `rt run` in crates/bench, crates/test_states and crates/hubsync. A C compiler is needed, since
 # a few lines of C take the place of the C library's `malloc`, `calloc`, `realloc`, `read`, `write` and `pthread_create`. As many
@@ -25,7 +25,7 @@
 set -euo pipefail
 crate=bench
 # shellcheck source=bench/head.sh
-source "$(dirname "$(readlink -f "${BASH_SOURCE[0]}")")/head.sh"
+source "$(dirname "$(readlink -f "${BASH_SOURCE[0]}")")/../bench/head.sh"
 questions=$(built test_states)
 hubsync=$(built hubsync)
 need "$questions" "$hubsync"

@@ -1,7 +1,7 @@
 #!/usr/bin/env python3
 """Asks the program about random and damaged bundles, for some minutes, and looks for an answer that may not come.
 
-    bench/hostile.py [--program PATH] [--minutes N] [--seed N] [--megabytes N] [--seconds N] [--keep FOLDER]
+    tests/hostile.py [--program PATH] [--minutes N] [--seed N] [--megabytes N] [--seconds N] [--keep FOLDER]
 
 A bundle is made of random sections, or of an example or a table's input, and is then damaged: bytes, lines and sections are taken
 out, doubled, changed and swapped, lines are put in whose words are right or almost, and it is cut. Half of the safe bundles get

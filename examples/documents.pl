@@ -1,7 +1,7 @@
 #!/usr/bin/env perl
 # Tries the examples of README.md, docs/*.md and examples/README.md.
 #
-#     examples/documents.sh [PROGRAM]
+#     examples/documents.pl [PROGRAM]
 #
 # PROGRAM is the built program (crates/hubsync/out/hubsync if left out). An example is an indented line `$ COMMAND`, in which
 # `./hubsync` is PROGRAM. The lines below it are what the command writes to standard output, and if one of them begins with
@@ -22,8 +22,8 @@ if (!defined $program || !-x $program) {
 }
 my $room = tempdir(CLEANUP => 1);
 chdir $room or die "$room: $!\n";
-symlink $program, 'hubsync'         or die "hubsync: $!\n";
-symlink "$top/examples", 'examples' or die "examples: $!\n";
+symlink $program, 'hubsync' or die "hubsync: $!\n";
+symlink "$top/$_", $_ or die "$_: $!\n" for 'examples', 'tools';
 
 sub contents_of {
     my ($file) = @_;

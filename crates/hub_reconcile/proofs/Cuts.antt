@@ -1,4 +1,4 @@
--- The rows of a view, cut into blocks.
+-- The rows of a view, cut into groups.
 use Rattle.std.proofs.Common.{Ordering, ◌≡◌, ℕ, zero, suc, ◌+◌, ◌<◌, Bool, true, false, cond, not, ◌&&◌, List, [], ◌∷◌, ◌++◌, length, take, drop, Option, Some, None, refl, ap, sym, ◌∙◌, subst, arith, append_assoc}
 use Rattle.std.specs.Prelude.{filter, find, option_map}
 use Rattle.std.specs.List.{prefix_len, take_while}
@@ -18,7 +18,7 @@ use Rattle.hub_profile.specs.Parts.{some_passes}
 use Rattle.hub_tree.specs.Below.{is_below}
 use Rattle.hub_tree.specs.laws.Order.{path_itself}
 use Rattle.hub_tree.specs.laws.Between.{among, among_filter, before, behind, among-none, not_both}
-use Rattle.hub_reconcile.specs.forms.Blocks.{IsCut, rows_below}
+use Rattle.hub_reconcile.specs.forms.Groups.{IsCut, rows_below}
 use Rattle.hub_reconcile.specs.Items.{differs, item_over, is_item, below, at_and_below}
 use Rattle.hub_reconcile.specs.Rows.{IsRow, AreRows, AreRowsOf, is_different, paths_of}
 use Rattle.hub_reconcile.specs.View.{View, mark_eq}
@@ -241,7 +241,7 @@ module _ (V : View) (sorted : IsStrictlySortedBy path_cmp V.paths) (holds : (y :
     pub is_all_tops : paths_of (r ∷ tops) ≡ at_and_below V p
     is_all_tops = sym (all_of (is_over p) true (is_over-reflexive p) (λ z e. e) (λ z l. refl))
 
-    -- What is in the block is no other item.
+    -- What is in the group is no other item.
     no_item_in : is_different r ≡ true → (y : Path) → among y (paths_of tops) ≡ true → is_item V y ≡ true → ⊥
     no_item_in d y m is =
         let two = and_parts (is_below p y) (among y V.paths) (sym (among_filter y (is_below p) V.paths) ∙ (ap (among y) (sym is_below_tops) ∙ m)) in
@@ -252,12 +252,12 @@ module _ (V : View) (sorted : IsStrictlySortedBy path_cmp V.paths) (holds : (y :
     in_rest : (x : Path) (n : ℕ) → among x (paths_of (drop n rs)) ≡ true → among x (paths_of (r ∷ rs)) ≡ true
     in_rest x n e = or_right (eq_by_cmp path_cmp x p) _ (in_drop x n rs e)
 
-    behind_block : (n : ℕ) → length tops ≡ n → paths_of tops ++ paths_of (drop n rs) ≡ paths_of rs
-    behind_block n e = ap (λ k. paths_of tops ++ paths_of (drop k rs)) (sym e ∙ length-prefix_len f rs) ∙ halves (prefix_len f rs) rs
+    behind_group : (n : ℕ) → length tops ≡ n → paths_of tops ++ paths_of (drop n rs) ≡ paths_of rs
+    behind_group n e = ap (λ k. paths_of tops ++ paths_of (drop k rs)) (sym e ∙ length-prefix_len f rs) ∙ halves (prefix_len f rs) rs
 
     next_item : is_different r ≡ true → IsCut V (front ++ p ∷ paths_of tops) (drop (length tops) rs)
     next_item d = record {
-      paths = append_assoc front (p ∷ paths_of tops) (paths_of (drop (length tops) rs)) ∙ (ap (λ ps. front ++ p ∷ ps) (behind_block (length tops) refl) ∙ c.paths);
+      paths = append_assoc front (p ∷ paths_of tops) (paths_of (drop (length tops) rs)) ∙ (ap (λ ps. front ++ p ∷ ps) (behind_group (length tops) refl) ∙ c.paths);
       rows = drop_rows V (length tops) rs c.rows.1;
       clear = λ y x m is e.
           false_from_ne_true (is_over y x) (λ o.

@@ -6,7 +6,7 @@ use Rattle.std.proofs.lemmas.Grind.{flat_map-append}
 use Rattle.hub_path.specs.Path.{Path}
 use Rattle.hub_tree.specs.Marked.{marked_entries}
 use Rattle.hub_tree.specs.declared.contents.Mark.{Mark}
-use Rattle.hub_reconcile.specs.forms.Blocks.{kept_marks}
+use Rattle.hub_reconcile.specs.forms.Groups.{kept_marks}
 
 pub head_rest : {X : Type 0} (xs : List X) (x : X) → 0 < length xs → x ≡ slice_index_or xs 0 x → xs ≡ x ∷ take (length xs - 1) (drop 1 xs)
 head_rest [] x l e = absurd (omega arith)

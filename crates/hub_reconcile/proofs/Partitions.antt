@@ -1,4 +1,4 @@
--- What the blocks of a view say of its items, of their changes and of the new archive.
+-- What the groups of a view say of its items, of their changes and of the new archive.
 use Rattle.std.proofs.Common.{◌≡◌, ◌<◌, Bool, true, false, cond, not, ◌&&◌, ◌||◌, List, [], ◌∷◌, ◌++◌, map, length, Option, Some, None, refl, ap, sym, ◌∙◌, append-nil}
 use Rattle.std.specs.Prelude.{filter, reverse, fold, option_map}
 use Rattle.std.specs.List.{flat_map}
@@ -18,12 +18,12 @@ use Rattle.hub_tree.specs.declared.contents.Mark.{Mark}
 use Rattle.hub_tree.specs.declared.contents.Mark.TheVariants as mark
 use Rattle.hub_tree.specs.laws.Order.{same_path}
 use Rattle.hub_tree.specs.laws.Between.{among, among_filter}
-use Rattle.hub_reconcile.specs.forms.Blocks.{IsFated, AreBlocks, IsPartition, block_paths, item_by, block_items, row_comes, going_rows, coming_rows, changes_fated, block_changes, mark_fated, HaveNames, HaveAllNames}
+use Rattle.hub_reconcile.specs.forms.Groups.{IsFated, AreGroups, IsPartition, group_paths, item_by, group_items, row_comes, going_rows, coming_rows, changes_fated, group_changes, mark_fated, HaveNames, HaveAllNames}
 use Rattle.hub_reconcile.specs.Items.{other, differs, item_over, is_item, fate, below, change, going, coming, changes, changes_by, items, plan}
 use Rattle.hub_reconcile.specs.Rows.{IsRow, AreRows, mark_on, is_going, is_coming, paths_of}
 use Rattle.hub_reconcile.specs.Sync.{fate_over, mark_under, synced_mark}
 use Rattle.hub_reconcile.specs.View.{View, is_present}
-use Rattle.hub_reconcile.specs.declared.block.Block.{Block}
+use Rattle.hub_reconcile.specs.declared.group.Group.{Group}
 use Rattle.hub_reconcile.specs.declared.change.Change.{Change}
 use Rattle.hub_reconcile.specs.declared.item.Fate.{Fate}
 use Rattle.hub_reconcile.specs.declared.item.Fate.TheVariants.{To, Skip}
@@ -101,16 +101,16 @@ module _ (V : View) where
       ∙ ((λ i. made p (h.2 i) ∷ map item_at (filter (is_item V) (h.0 i)))
       ∙ ap (λ qs. made p f ∷ map item_at qs) (filter_none (is_item V) (below V p) (under_not p h.1))))
 
-  blocks_items : (bs : List Block) → AreBlocks V bs → flat_map block_items bs ≡ map item_at (filter (is_item V) (flat_map block_paths bs))
-  blocks_items [] a = refl
-  blocks_items (b ∷ bs) a =
-      (λ i. fated_items b.first.now.path.now (paths_of b.below.now) b.fate a.0.fated i ++ blocks_items bs a.1 i)
-      ∙ (sym (map-append item_at (filter (is_item V) (block_paths b)) (filter (is_item V) (flat_map block_paths bs)))
-      ∙ ap (map item_at) (sym (filter-append (is_item V) (block_paths b) (flat_map block_paths bs))))
+  groups_items : (bs : List Group) → AreGroups V bs → flat_map group_items bs ≡ map item_at (filter (is_item V) (flat_map group_paths bs))
+  groups_items [] a = refl
+  groups_items (b ∷ bs) a =
+      (λ i. fated_items b.first.now.path.now (paths_of b.below.now) b.fate a.0.fated i ++ groups_items bs a.1 i)
+      ∙ (sym (map-append item_at (filter (is_item V) (group_paths b)) (filter (is_item V) (flat_map group_paths bs)))
+      ∙ ap (map item_at) (sym (filter-append (is_item V) (group_paths b) (flat_map group_paths bs))))
 
-  pub partition_items : (bs : List Block) → IsPartition V bs → flat_map block_items bs ≡ items V
+  pub partition_items : (bs : List Group) → IsPartition V bs → flat_map group_items bs ≡ items V
   unfolding items
-  partition_items bs w = blocks_items bs w.blocks ∙ ap (λ ps. map item_at (filter (is_item V) ps)) w.paths
+  partition_items bs w = groups_items bs w.groups ∙ ap (λ ps. map item_at (filter (is_item V) ps)) w.paths
 
   -- Changes.
   going_row : (from : Side) (r : Row) → IsRow V r → is_going from r ≡ (is_present (V.mark (other from) r.path.now) && not (is_present (V.mark from r.path.now)))
@@ -149,14 +149,14 @@ module _ (V : View) where
       (λ i. going_same (other side) r.path.now rs a.1 h.0 i ++ change (other (other side)) r.path.now (mark_row (other side) r a.0 i) ∷ coming_same (other side) r.path.now rs a.1 h.0 i)
       ∙ sym (append-nil (changes V (other side) r.path.now))
 
-  blocks_changes : (bs : List Block) → AreBlocks V bs → flat_map block_changes bs ≡ flat_map (λ b. flat_map change_list (block_items b)) bs
-  blocks_changes [] a = refl
-  blocks_changes (b ∷ bs) a = λ i. fated_changes b.first.now b.below.now b.fate a.0.rows a.0.fated i ++ blocks_changes bs a.1 i
+  groups_changes : (bs : List Group) → AreGroups V bs → flat_map group_changes bs ≡ flat_map (λ b. flat_map change_list (group_items b)) bs
+  groups_changes [] a = refl
+  groups_changes (b ∷ bs) a = λ i. fated_changes b.first.now b.below.now b.fate a.0.rows a.0.fated i ++ groups_changes bs a.1 i
 
-  pub partition_changes : (bs : List Block) → IsPartition V bs → flat_map block_changes bs ≡ plan V
+  pub partition_changes : (bs : List Group) → IsPartition V bs → flat_map group_changes bs ≡ plan V
   unfolding plan
   partition_changes bs w =
-      blocks_changes bs w.blocks ∙ (sym (flat_map-flat_map change_list block_items bs) ∙ ap (flat_map change_list) (partition_items bs w))
+      groups_changes bs w.groups ∙ (sym (flat_map-flat_map change_list group_items bs) ∙ ap (flat_map change_list) (partition_items bs w))
 
   -- The archive.
   reached_mark : (p : Path) (b : Bool) (m n : Mark) → b ≡ true → m ≡ cond b m n
@@ -176,8 +176,8 @@ module _ (V : View) where
   or_no true = refl
   or_no false = refl
 
-  over_block : (p q : Path) → among q (p ∷ below V p) ≡ true → is_over p q ≡ true
-  over_block p q e =
+  over_group : (p q : Path) → among q (p ∷ below V p) ≡ true → is_over p q ≡ true
+  over_group p q e =
       elim (eq_by_cmp path_cmp q p) as (λ b. eq_by_cmp path_cmp q p ≡ b → (b || among q (below V p)) ≡ true → is_over p q ≡ true) [
         | true ↦ λ h m. ap (is_over p) (same_path q p h) ∙ is_over-reflexive p
         | false ↦ λ h m.
@@ -191,7 +191,7 @@ module _ (V : View) where
       ap (option_map (fate V)) (ap (item_over V) (same_path q p (sym (or_no (eq_by_cmp path_cmp q p)) ∙ only)) ∙ h.1)
   fate_at p ps (Some f) h q e =
       let low : among q (p ∷ below V p) ≡ true = ap (λ qs. among q (p ∷ qs)) (sym h.0) ∙ e in
-      ap (option_map (fate V)) (find-longer (differs V) p q p (over_block p q low) (over_itself V p h.1)) ∙ ap (λ x. Some x) h.2
+      ap (option_map (fate V)) (find-longer (differs V) p q p (over_group p q low) (over_itself V p h.1)) ∙ ap (λ x. Some x) h.2
 
   -- No row is of the whole replica.
   module _ (names : (q : Path) → V.reached q ≡ true → 0 < length q) where
@@ -199,6 +199,6 @@ module _ (V : View) where
     have_names [] a = tt
     have_names (r ∷ rs) a = (names r.path.now a.0.reached, have_names rs a.1)
 
-    pub have_all_names : (bs : List Block) → AreBlocks V bs → HaveAllNames bs
+    pub have_all_names : (bs : List Group) → AreGroups V bs → HaveAllNames bs
     have_all_names [] a = tt
     have_all_names (b ∷ bs) a = (have_names (b.first.now ∷ b.below.now) a.0.rows, have_all_names bs a.1)

@@ -5,7 +5,7 @@ use Rattle.std.specs.List.Sorted.{IsStrictlySortedBy}
 use Rattle.hub_path.specs.Path.{Path, path_cmp, is_over}
 use Rattle.hub_path.specs.declared.side.Side.{Side}
 use Rattle.hub_tree.specs.laws.Between.{among}
-use Rattle.hub_reconcile.specs.forms.Blocks.{IsCut, IsFated, rows_below}
+use Rattle.hub_reconcile.specs.forms.Groups.{IsCut, IsFated, rows_below}
 use Rattle.hub_reconcile.specs.Items.{differs, fate, below, at_and_below}
 use Rattle.hub_reconcile.specs.Picture.{told_by}
 use Rattle.hub_reconcile.specs.Rows.{AreRows, is_different, paths_of}

@@ -26,14 +26,14 @@ use Rattle.hub_tree.specs.declared.contents.Mark.TheVariants as mark
 use Rattle.hub_tree.specs.laws.Between.{among, among_filter, not_both}
 use Rattle.hub_tree.specs.laws.Children.{sorted_keys}
 use Rattle.hub_tree.specs.laws.Order.{path_itself, same_path}
-use Rattle.hub_reconcile.specs.forms.Blocks.{AreBlocks, IsPartition, block_marks, block_paths, kept_marks, row_told, HaveMarkNames}
+use Rattle.hub_reconcile.specs.forms.Groups.{AreGroups, IsPartition, group_marks, group_paths, kept_marks, row_told, HaveMarkNames}
 use Rattle.hub_reconcile.specs.Merge.{paths_in, is_other}
 use Rattle.hub_reconcile.specs.Picture.{view_by}
 use Rattle.hub_reconcile.specs.Rows.{AreRows, paths_of}
 use Rattle.hub_reconcile.specs.Sight.{Sight}
 use Rattle.hub_reconcile.specs.Sync.{fate_over, next_archive, synced_mark}
 use Rattle.hub_reconcile.specs.View.{View, is_present}
-use Rattle.hub_reconcile.specs.declared.block.Block.{Block}
+use Rattle.hub_reconcile.specs.declared.group.Group.{Group}
 use Rattle.hub_reconcile.specs.declared.item.Fate.{Fate}
 use Rattle.hub_reconcile.specs.declared.row.Row.{Row}
 use Rattle.hub_reconcile.specs.laws.Ascend.{among_ascending}
@@ -131,15 +131,15 @@ not_absent (mark.File d) h = refl
 not_absent mark.Directory h = refl
 not_absent mark.Absent h = absurd (h refl)
 
--- The paths of rows and of blocks.
+-- The paths of rows and of groups.
 paths_told : (f : Option Fate) (rs : List Row) → paths_in (map (row_told f) rs) ≡ paths_of rs
 paths_told f [] = refl
 paths_told f (r ∷ rs) = ap (λ ps. r.path.now ∷ ps) (paths_told f rs)
 
-paths_blocks : (bs : List Block) → paths_in (flat_map block_marks bs) ≡ flat_map block_paths bs
-paths_blocks [] = refl
-paths_blocks (b ∷ bs) =
-    map-append (λ (e : Path × Mark). e.0) (block_marks b) (flat_map block_marks bs) ∙ (λ i. paths_told b.fate (b.first.now ∷ b.below.now) i ++ paths_blocks bs i)
+paths_groups : (bs : List Group) → paths_in (flat_map group_marks bs) ≡ flat_map group_paths bs
+paths_groups [] = refl
+paths_groups (b ∷ bs) =
+    map-append (λ (e : Path × Mark). e.0) (group_marks b) (flat_map group_marks bs) ∙ (λ i. paths_told b.fate (b.first.now ∷ b.below.now) i ++ paths_groups bs i)
 
 named_marks : (es : List (Path × Mark)) → Each (λ (e : Path × Mark). 0 < length e.0) es → HaveMarkNames es
 named_marks [] h = tt
@@ -222,22 +222,22 @@ module _ (P : Parts) (O : Archive) (seen : Side → List (Path × Sight)) (is : 
         rows_right f rs are.1 (λ q e. fates q (or_right (eq_by_cmp path_cmp q p) _ e)) (λ q e. into q (or_right (eq_by_cmp path_cmp q p) _ e)),
       )
 
-  blocks_right : (bs : List Block) → AreBlocks V bs → ((q : Path) → among q (flat_map block_paths bs) ≡ true → among q V.paths ≡ true) → Each IsRight (flat_map block_marks bs)
-  blocks_right [] are into = tt
-  blocks_right (b ∷ bs) are into =
-      Each-append IsRight (block_marks b) (flat_map block_marks bs)
+  groups_right : (bs : List Group) → AreGroups V bs → ((q : Path) → among q (flat_map group_paths bs) ≡ true → among q V.paths ≡ true) → Each IsRight (flat_map group_marks bs)
+  groups_right [] are into = tt
+  groups_right (b ∷ bs) are into =
+      Each-append IsRight (group_marks b) (flat_map group_marks bs)
       (rows_right b.fate (b.first.now ∷ b.below.now) are.0.rows (fate_at V b.first.now.path.now (paths_of b.below.now) b.fate are.0.fated)
-      (λ q e. into q (list_any-append (eq_by_cmp path_cmp q) (block_paths b) (flat_map block_paths bs) ∙ or_left _ _ e)))
-      (blocks_right bs are.1 (λ q e. into q (list_any-append (eq_by_cmp path_cmp q) (block_paths b) (flat_map block_paths bs) ∙ or_right (among q (block_paths b)) _ e)))
+      (λ q e. into q (list_any-append (eq_by_cmp path_cmp q) (group_paths b) (flat_map group_paths bs) ∙ or_left _ _ e)))
+      (groups_right bs are.1 (λ q e. into q (list_any-append (eq_by_cmp path_cmp q) (group_paths b) (flat_map group_paths bs) ∙ or_right (among q (group_paths b)) _ e)))
 
-  module _ (bs : List Block) (w : IsPartition V bs) where
+  module _ (bs : List Group) (w : IsPartition V bs) where
     abbrev all_marks : List (Path × Mark)
-    all_marks = others ++ flat_map block_marks bs
+    all_marks = others ++ flat_map group_marks bs
 
     all_right : Each IsRight all_marks
     all_right =
-        Each-append IsRight others (flat_map block_marks bs) (each-weaker IsKept IsRight others kept_right others_kept)
-        (blocks_right bs w.blocks (λ q e. sym (ap (among q) w.paths) ∙ e))
+        Each-append IsRight others (flat_map group_marks bs) (each-weaker IsKept IsRight others kept_right others_kept)
+        (groups_right bs w.groups (λ q e. sym (ap (among q) w.paths) ∙ e))
 
     is_there : (q : Path) (m : Mark) (b : Bool) → fin.get O q ≡ Some m → reach P q ≡ b → (among q (paths_in others) ≡ true → ⊥) → (among q V.paths ≡ true → ⊥) → ⊥
     is_there q m true e h not_kept not_new =
@@ -254,12 +254,12 @@ module _ (P : Parts) (O : Archive) (seen : Side → List (Path × Sight)) (is : 
     all_full : (q : Path) → among q (paths_in all_marks) ≡ false → fin.get (next_archive V O) q ≡ None
     all_full q e =
         let two = or_parts (among q (paths_in others)) (among q V.paths)
-        (sym (ap (among q) (map-append (λ (e : Path × Mark). e.0) others (flat_map block_marks bs))
-        ∙ (list_any-append (eq_by_cmp path_cmp q) (paths_in others) (paths_in (flat_map block_marks bs))
-        ∙ ap (λ ps. among q (paths_in others) || among q ps) (paths_blocks bs ∙ w.paths))) ∙ e) in
+        (sym (ap (among q) (map-append (λ (e : Path × Mark). e.0) others (flat_map group_marks bs))
+        ∙ (list_any-append (eq_by_cmp path_cmp q) (paths_in others) (paths_in (flat_map group_marks bs))
+        ∙ ap (λ ps. among q (paths_in others) || among q ps) (paths_groups bs ∙ w.paths))) ∙ e) in
         next_get q ∙ (ap (λ b. cond b (kept_mark (synced_mark V q)) (fin.get O q)) two.1 ∙ none_there q (fin.get O q) refl two.0 two.1)
 
-    pub renewed : with_entries fin.empty (kept_marks others ++ kept_marks (flat_map block_marks bs)) ≡ next_archive V O
+    pub renewed : with_entries fin.empty (kept_marks others ++ kept_marks (flat_map group_marks bs)) ≡ next_archive V O
     renewed =
-        ap (with_entries fin.empty) (sym (flat_map-append (λ (e : Path × Mark). marked_entries e.0 e.1) others (flat_map block_marks bs)))
+        ap (with_entries fin.empty) (sym (flat_map-append (λ (e : Path × Mark). marked_entries e.0 e.1) others (flat_map group_marks bs)))
         ∙ made_of (next_archive V O) all_marks all_right all_full

@@ -2,7 +2,7 @@
 -- defined synchronization, a plan has few changes, and its Looks tell what it needs.
 pub mod Archived
 pub mod Ascend
-pub mod Blocks
+pub mod Below
 pub mod Changes
 pub mod Counts
 pub mod Each

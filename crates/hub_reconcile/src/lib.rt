@@ -41,9 +41,9 @@
 //! That Unison does the same: docs/UNISON.md has what was seen.
 #![tactic(auto)]
 
-mod block;
 mod change;
 mod fate;
+mod group;
 mod item;
 pub mod laws;
 mod look;

@@ -1,13 +1,13 @@
 //! The items of a picture, their changes, and the new archive.
 ghost use Rattle.std.specs.Prelude.{◌≡◌, ◌++◌, ◌∷◌, [], IfOk, OnOk};
 ghost use Rattle.std.specs.List.{flat_map};
-ghost use Rattle.hub_reconcile.specs.forms.Blocks as parts;
+ghost use Rattle.hub_reconcile.specs.forms.Groups as parts;
 ghost use Rattle.hub_reconcile.specs.Items as spec;
 ghost use Rattle.hub_reconcile.specs.Merge as merge;
 ghost use Rattle.hub_reconcile.specs.Shown.{AreOtherMarks, next_archive_of, shown};
 
-use crate::block::{Block, blocks};
 use crate::change::Change;
+use crate::group::{Group, groups};
 use crate::item::{Fate, Item};
 use crate::old_mark::OldMark;
 use crate::picture::Picture;
@@ -24,8 +24,8 @@ pub fn items(alloc: Global, picture: &Picture) -> Result<Items<Item>, AllocError
     ensures { IfOk result (λ is. is ≡ spec.items (shown picture.now)) }
 {
     let table = table_of(alloc, picture)?;
-    let blocks = blocks(alloc, picture, table.rows.as_slice())?;
-    Ok(Items::from_vec(items_of(alloc, blocks.as_slice())?))
+    let groups = groups(alloc, picture, table.rows.as_slice())?;
+    Ok(Items::from_vec(items_of(alloc, groups.as_slice())?))
 }
 
 /// Returns the changes of the items that aren't skipped, in the order of the items, or `AllocError` when out of memory.
@@ -37,8 +37,8 @@ pub fn plan(alloc: Global, picture: &Picture) -> Result<Items<Change>, AllocErro
     ensures { IfOk result (λ cs. cs ≡ spec.plan (shown picture.now)) }
 {
     let table = table_of(alloc, picture)?;
-    let blocks = blocks(alloc, picture, table.rows.as_slice())?;
-    Ok(Items::from_vec(changes_of(alloc, blocks.as_slice())?))
+    let groups = groups(alloc, picture, table.rows.as_slice())?;
+    Ok(Items::from_vec(changes_of(alloc, groups.as_slice())?))
 }
 
 /// Returns the archive afterwards, or `AllocError` when out of memory. The picture's archive is unchanged.
@@ -49,8 +49,8 @@ pub fn next_archive(alloc: Global, picture: &Picture) -> Result<Archive, AllocEr
     ensures { IfOk result (λ a. a ≡ next_archive_of picture.now) }
 {
     let table = table_of(alloc, picture)?;
-    let blocks = blocks(alloc, picture, table.rows.as_slice())?;
-    archive_of(alloc, picture, table.others.as_slice(), blocks.as_slice())
+    let groups = groups(alloc, picture, table.rows.as_slice())?;
+    archive_of(alloc, picture, table.others.as_slice(), groups.as_slice())
 }
 
 /// Returns the items of a picture and the archive afterwards, as [`items`] and [`next_archive`] do, or `AllocError` when
@@ -64,51 +64,51 @@ pub fn items_and_archive(
     ensures archive { IfOk result (λ both. both.1 ≡ next_archive_of picture.now) }
 {
     let table = table_of(alloc, picture)?;
-    let blocks = blocks(alloc, picture, table.rows.as_slice())?;
-    let items = Items::from_vec(items_of(alloc, blocks.as_slice())?);
-    let archive = archive_of(alloc, picture, table.others.as_slice(), blocks.as_slice())?;
+    let groups = groups(alloc, picture, table.rows.as_slice())?;
+    let items = Items::from_vec(items_of(alloc, groups.as_slice())?);
+    let archive = archive_of(alloc, picture, table.others.as_slice(), groups.as_slice())?;
     Ok((items, archive))
 }
 
-/// The items of blocks.
-fn items_of(alloc: Global, blocks: &[Block]) -> Result<Vec<Item>, AllocError>
-    ensures { IfOk result (λ is. is.items ≡ flat_map parts.block_items blocks.now) }
+/// The items of groups.
+fn items_of(alloc: Global, groups: &[Group]) -> Result<Vec<Item>, AllocError>
+    ensures { IfOk result (λ is. is.items ≡ flat_map parts.group_items groups.now) }
 {
     let mut items = Vec::new(alloc);
-    for block in blocks {
-        push_block(&mut items, block)?;
+    for group in groups {
+        push_group(&mut items, group)?;
     }
     Ok(items)
 }
 
-/// Adds the item of a block, if it has one.
-fn push_block(items: &mut Vec<Item>, block: &Block) -> Result<(), AllocError>
-    ensures { OnOk result (items.new.items ≡ items.old.items ++ parts.block_items block.now) }
+/// Adds the item of a group, if it has one.
+fn push_group(items: &mut Vec<Item>, group: &Group) -> Result<(), AllocError>
+    ensures { OnOk result (items.new.items ≡ items.old.items ++ parts.group_items group.now) }
 {
-    if let Some(fate) = block.fate {
-        let path = block.first.path.copy()?;
+    if let Some(fate) = group.fate {
+        let path = group.first.path.copy()?;
         items.push(Item { path, fate })?;
     }
     Ok(())
 }
 
-/// The changes of blocks.
-fn changes_of(alloc: Global, blocks: &[Block]) -> Result<Vec<Change>, AllocError>
-    ensures { IfOk result (λ cs. cs.items ≡ flat_map parts.block_changes blocks.now) }
+/// The changes of groups.
+fn changes_of(alloc: Global, groups: &[Group]) -> Result<Vec<Change>, AllocError>
+    ensures { IfOk result (λ cs. cs.items ≡ flat_map parts.group_changes groups.now) }
 {
     let mut changes = Vec::new(alloc);
-    for block in blocks {
-        push_changes(&mut changes, block)?;
+    for group in groups {
+        push_changes(&mut changes, group)?;
     }
     Ok(changes)
 }
 
-/// Adds the changes of a block.
-fn push_changes(changes: &mut Vec<Change>, block: &Block) -> Result<(), AllocError>
-    ensures { OnOk result (changes.new.items ≡ changes.old.items ++ parts.block_changes block.now) }
+/// Adds the changes of a group.
+fn push_changes(changes: &mut Vec<Change>, group: &Group) -> Result<(), AllocError>
+    ensures { OnOk result (changes.new.items ≡ changes.old.items ++ parts.group_changes group.now) }
 {
-    match block.fate {
-        Some(Fate::To(to)) => push_item(changes, block.first, block.below, to.other()),
+    match group.fate {
+        Some(Fate::To(to)) => push_item(changes, group.first, group.below, to.other()),
         Some(Fate::Skip(_)) => Ok(()),
         None => Ok(()),
     }
@@ -177,21 +177,21 @@ fn push_change(
     Ok(())
 }
 
-/// The archive afterwards: the old marks at the paths that aren't reached, and the new ones at the blocks' paths.
+/// The archive afterwards: the old marks at the paths that aren't reached, and the new ones at the groups' paths.
 fn archive_of(
     alloc: Global,
     picture: &Picture,
     others: &[OldMark],
-    blocks: &[Block],
+    groups: &[Group],
 ) -> Result<Archive, AllocError>
     requires others { AreOtherMarks picture.now others.now }
-    requires blocks { parts.IsPartition (shown picture.now) blocks.now }
+    requires groups { parts.IsPartition (shown picture.now) groups.now }
     ensures { IfOk result (λ a. a ≡ next_archive_of picture.now) }
 {
     let _top = picture.archive().mark_at(&RelPath::top(alloc));
     let mut marks = ArchiveBuilder::new(alloc);
     keep_all(&mut marks, others)?;
-    add_marks(&mut marks, blocks)?;
+    add_marks(&mut marks, groups)?;
     marks.build()
 }
 
@@ -209,30 +209,30 @@ fn keep_all(marks: &mut ArchiveBuilder, others: &[OldMark]) -> Result<(), AllocE
     Ok(())
 }
 
-/// Adds the new marks of all blocks' paths.
-fn add_marks(marks: &mut ArchiveBuilder, blocks: &[Block]) -> Result<(), AllocError>
-    requires { parts.HaveAllNames blocks.now }
+/// Adds the new marks of all groups' paths.
+fn add_marks(marks: &mut ArchiveBuilder, groups: &[Group]) -> Result<(), AllocError>
+    requires { parts.HaveAllNames groups.now }
     ensures { OnOk result (marks.new
-        ≡ marks.old ++ parts.kept_marks (flat_map parts.block_marks blocks.now)) }
+        ≡ marks.old ++ parts.kept_marks (flat_map parts.group_marks groups.now)) }
 {
-    let mut rest = blocks;
-    while let [block, after @ ..] = rest {
-        update(marks, block)?;
+    let mut rest = groups;
+    while let [group, after @ ..] = rest {
+        update(marks, group)?;
         rest = after;
     }
     Ok(())
 }
 
-/// Adds the new marks of a block's paths.
-fn update(marks: &mut ArchiveBuilder, block: &Block) -> Result<(), AllocError>
-    requires { parts.HasNames block.now }
+/// Adds the new marks of a group's paths.
+fn update(marks: &mut ArchiveBuilder, group: &Group) -> Result<(), AllocError>
+    requires { parts.HasNames group.now }
     ensures { OnOk result (marks.new
-        ≡ marks.old ++ parts.kept_marks (parts.block_marks block.now)) }
+        ≡ marks.old ++ parts.kept_marks (parts.group_marks group.now)) }
 {
-    marks.push(block.first.path, new_mark(block.first, block.fate))?;
-    let mut rest = block.below;
+    marks.push(group.first.path, new_mark(group.first, group.fate))?;
+    let mut rest = group.below;
     while let [row, after @ ..] = rest {
-        marks.push(row.path, new_mark(row, block.fate))?;
+        marks.push(row.path, new_mark(row, group.fate))?;
         rest = after;
     }
     Ok(())

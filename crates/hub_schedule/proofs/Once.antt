@@ -29,7 +29,7 @@ use Rattle.hub_reconcile.specs.declared.change.Change.{Change}
 use Rattle.hub_reconcile.specs.declared.item.Fate.{Fate}
 use Rattle.hub_reconcile.specs.declared.item.Fate.TheVariants.{To, Skip}
 use Rattle.hub_reconcile.specs.laws.Views.{paths_same, paths_sorted}
-use Rattle.hub_reconcile.specs.laws.Blocks.{goes, below_of}
+use Rattle.hub_reconcile.specs.laws.Below.{goes, below_of}
 use Rattle.hub_reconcile.specs.laws.Steps.{differ}
 use Rattle.hub_reconcile.specs.laws.Synced.{Apart, items_apart, all_items, of_items, item_differs, flat_items}
 use Rattle.hub_reconcile.specs.laws.Each.{Each, each-back, each-map, each-flat_map}
@@ -76,8 +76,8 @@ same_paths_of : (side : Side) (m : Path → Mark) (xs : List Path) → paths_of 
 same_paths_of side m [] = refl
 same_paths_of side m (x ∷ xs) = ap (λ ps. x ∷ ps) (same_paths_of side m xs)
 
-block_paths : (V : View) (from : Side) (p : Path) → paths_of (changes V from p) ≡ reverse (going V from p) ++ p ∷ coming V from p
-block_paths V from p =
+group_paths : (V : View) (from : Side) (p : Path) → paths_of (changes V from p) ≡ reverse (going V from p) ++ p ∷ coming V from p
+group_paths V from p =
     map-append (λ (c : Change). c.path) (map (λ q. change (other from) q mark.Absent) (reverse (going V from p))) (change (other from) p (V.mark from p) ∷ map (λ q. change (other from) q (V.mark from q)) (coming V from p))
     ∙ (ap (λ ps. ps ++ p ∷ paths_of (map (λ q. change (other from) q (V.mark from q)) (coming V from p))) (same_paths_of (other from) (λ _. mark.Absent) (reverse (going V from p)))
     ∙ ap (λ ps. reverse (going V from p) ++ p ∷ ps) (same_paths_of (other from) (V.mark from) (coming V from p)))
@@ -93,10 +93,10 @@ in_coming : (V : View) (from : Side) (p q : Path) → among q (coming V from p) 
 in_coming V from p q e = and_parts (is_present (V.mark from q)) (among q (below V p)) (sym (among_filter q (λ q. is_present (V.mark from q)) (below V p)) ∙ e)
 
 -- A path of an item's changes is the item, or below it.
-block_of : (V : View) (from : Side) (p q : Path) → among q (paths_of (changes V from p)) ≡ true → (q ≡ p) ⊎ (among q (below V p) ≡ true)
-block_of V from p q e =
+group_of : (V : View) (from : Side) (p q : Path) → among q (paths_of (changes V from p)) ≡ true → (q ≡ p) ⊎ (among q (below V p) ≡ true)
+group_of V from p q e =
     let all : (among q (reverse (going V from p)) || among q (p ∷ coming V from p)) ≡ true =
-    sym (list_any-append (eq_by_cmp path_cmp q) (reverse (going V from p)) (p ∷ coming V from p)) ∙ (ap (among q) (sym (block_paths V from p)) ∙ e) in
+    sym (list_any-append (eq_by_cmp path_cmp q) (reverse (going V from p)) (p ∷ coming V from p)) ∙ (ap (among q) (sym (group_paths V from p)) ∙ e) in
     elim (or_cases (among q (reverse (going V from p))) (among q (p ∷ coming V from p)) all) [
       | inl g ↦ inr (in_going V from p q (sym (among_reverse q (going V from p)) ∙ g)).1
       | inr h ↦ elim (or_cases (eq_by_cmp path_cmp q p) (among q (coming V from p)) h) [
@@ -106,7 +106,7 @@ block_of V from p q e =
     ]
 
 changed_of : (V : View) (p q : Path) (f : Fate) → among q (paths_of (changes_by V p f)) ≡ true → (q ≡ p) ⊎ (among q (below V p) ≡ true)
-changed_of V p q (To side) e = block_of V (other side) p q e
+changed_of V p q (To side) e = group_of V (other side) p q e
 changed_of V p q (Skip why) e = absurd (false≢true e)
 
 -- A path of the changes of some items is one of the changes of one of them.
@@ -182,9 +182,9 @@ module _ (P : Parts) (facts : IsProfile P) (A B : Replica) (O : Archive) (left :
   below_sorted : (p : Path) → IsStrictlySortedBy path_cmp (below V p)
   below_sorted p = IsStrictlySortedBy-filter path_cmp (is_below p) V.paths (paths_sorted P A B O)
 
-  block_distinct : (from : Side) (p : Path) → Distinct (paths_of (changes V from p))
-  block_distinct from p =
-      subst Distinct (sym (block_paths V from p))
+  group_distinct : (from : Side) (p : Path) → Distinct (paths_of (changes V from p))
+  group_distinct from p =
+      subst Distinct (sym (group_paths V from p))
       (distinct_append (reverse (going V from p)) (p ∷ coming V from p)
       (distinct_reverse (going V from p) (distinct_sorted (going V from p) (IsStrictlySortedBy-filter path_cmp (λ q. is_present (V.mark (other from) q) && not (is_present (V.mark from q))) (below V p) (below_sorted p)))) (
         false_from_ne_true (among p (coming V from p)) (λ e. not_itself p (in_coming V from p p e).1),
@@ -198,7 +198,7 @@ module _ (P : Parts) (facts : IsProfile P) (A B : Replica) (O : Archive) (left :
       ]))
 
   changed_distinct : (p : Path) (f : Fate) → Distinct (paths_of (changes_by V p f))
-  changed_distinct p (To k) = block_distinct (other k) p
+  changed_distinct p (To k) = group_distinct (other k) p
   changed_distinct p (Skip why) = tt
 
   flat_distinct : (ps : List Path) → Apart ps → Distinct (paths_of (flat_map (λ (x : Path). changes_by V x (fate V x)) ps))

@@ -22,7 +22,7 @@ use Rattle.hub_reconcile.specs.declared.item.Fate.{Fate}
 use Rattle.hub_reconcile.specs.declared.item.Fate.TheVariants.{To, Skip}
 use Rattle.hub_reconcile.specs.laws.Over.{find-longer}
 use Rattle.hub_reconcile.specs.laws.Views.{scene, mark_here, same_paths}
-use Rattle.hub_reconcile.specs.laws.Blocks.{of_going, below_of}
+use Rattle.hub_reconcile.specs.laws.Below.{of_going, below_of}
 use Rattle.hub_reconcile.specs.laws.Steps.{differ}
 use Rattle.hub_reconcile.specs.laws.Synced.{over_itself, item_differs, flat_items, of_items, all_items}
 use Rattle.hub_reconcile.specs.laws.Each.{Each, Each-append, each-map, each-flat_map, each-among}
@@ -70,11 +70,11 @@ module _ (P : Parts) (facts : IsProfile P) (A B : Replica) (O : Archive) (left :
         let place = below_of P A B O left right p q two.1 in
         (mark_here P A B O (other k) q place.1, fated q (below_over p q place.0))
 
-    block_parts : Each IsGood
+    group_parts : Each IsGood
         (map (λ q. change k q mark.Absent) (reverse (going V (other k) p))
         ++ change k p (V.mark (other k) p)
         ∷ map (λ q. change k q (V.mark (other k) q)) (coming V (other k) p))
-    block_parts =
+    group_parts =
         Each-append IsGood (map (λ q. change k q mark.Absent) (reverse (going V (other k) p))) _
         (each-map IsGood (λ q. change k q mark.Absent) (reverse (going V (other k) p))
         (each-among (λ q. IsGoodAt k q mark.Absent) (reverse (going V (other k) p))
@@ -85,14 +85,14 @@ module _ (P : Parts) (facts : IsProfile P) (A B : Replica) (O : Archive) (left :
               coming_good),
         )
 
-  block_good : (k : Side) (p : Path) → is_item V p ≡ true → fate V p ≡ To k
+  group_good : (k : Side) (p : Path) → is_item V p ≡ true → fate V p ≡ To k
       → Each IsGood (changes V (other k) p)
-  block_good Left p is to = block_parts Left p is to
-  block_good Right p is to = block_parts Right p is to
+  group_good Left p is to = group_parts Left p is to
+  group_good Right p is to = group_parts Right p is to
 
   item_changes_good : (p : Path) (f : Fate) → is_item V p ≡ true → fate V p ≡ f
       → Each IsGood (changes_by V p f)
-  item_changes_good p (To k) is to = block_good k p is to
+  item_changes_good p (To k) is to = group_good k p is to
   item_changes_good p (Skip why) is to = tt
 
   pub plan_good : Each IsGood (plan V)

@@ -27,7 +27,7 @@ use Rattle.hub_reconcile.specs.declared.change.Change.{Change}
 use Rattle.hub_reconcile.specs.declared.item.Fate.{Fate}
 use Rattle.hub_reconcile.specs.declared.item.Fate.TheVariants.{To, Skip}
 use Rattle.hub_reconcile.specs.laws.Views.{scene, paths_sorted, key_of}
-use Rattle.hub_reconcile.specs.laws.Blocks.{Goes, goes, going_all, none_going, coming_is}
+use Rattle.hub_reconcile.specs.laws.Below.{Goes, goes, going_all, none_going, coming_is}
 use Rattle.hub_reconcile.specs.laws.Steps.{differ, one_present, one_directory}
 use Rattle.hub_reconcile.specs.laws.Synced.{Apart, items_apart, all_items, of_items, item_differs, flat_items}
 use Rattle.hub_reconcile.specs.laws.Needed.{fewer, one_fewer, keys_length, filter_less}
@@ -146,9 +146,9 @@ module _ (P : Parts) (facts : IsProfile P) (A B : Replica) (O : Archive) (left :
   sum_by_side Left p = refl
   sum_by_side Right p = omega arith
 
-  block_within : (k : Side) (p : Path) (b : Bool) → is_item V p ≡ true → Goes V p k
+  group_within : (k : Side) (p : Path) (b : Bool) → is_item V p ≡ true → Goes V p k
       → is_absent (contents_at (R k) p) ≡ b → length (changes V (other k) p) ≤ both p
-  block_within k p true is g e =
+  group_within k p true is g e =
       let d = item_differs V p is in
       let h = (differ P facts A B O left right p d).0 in
       let there = key_of P A B O (other k) p h
@@ -163,7 +163,7 @@ module _ (P : Parts) (facts : IsProfile P) (A B : Replica) (O : Archive) (left :
         under_more (R (other k)) p there,
         sum_by_side k p,
       )
-  block_within k p false is g e =
+  group_within k p false is g e =
       let d = item_differs V p is in
       let h = (differ P facts A B O left right p d).0 in
       omega (
@@ -179,7 +179,7 @@ module _ (P : Parts) (facts : IsProfile P) (A B : Replica) (O : Archive) (left :
   item_within : (p : Path) (f : Fate) → fate V p ≡ f → is_item V p ≡ true
       → length (changes_by V p f) ≤ both p
   item_within p (To k) e is =
-      block_within k p (is_absent (contents_at (R k) p)) is (goes V p k e) refl
+      group_within k p (is_absent (contents_at (R k) p)) is (goes V p k e) refl
   item_within p (Skip why) e is = omega arith
 
   items_within : (ps : List Path) → ((x : Path) → among x ps ≡ true → is_item V x ≡ true)

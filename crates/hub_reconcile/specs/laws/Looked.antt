@@ -30,7 +30,7 @@ use Rattle.hub_reconcile.specs.Picture.{sight_in, view_by, first_looks, needed, 
 use Rattle.hub_reconcile.specs.Sync.{of_side, root_or_top, view_of, sights_of}
 use Rattle.hub_reconcile.specs.laws.Ascend.{ascending_sorted, among_ascending, same_list}
 use Rattle.hub_reconcile.specs.laws.Views.{same_paths, sight_if, sight_unless, key_of, present_here}
-use Rattle.hub_reconcile.specs.laws.Blocks.{nothing_below, present_front}
+use Rattle.hub_reconcile.specs.laws.Below.{nothing_below, present_front}
 use Rattle.hub_reconcile.specs.laws.Synced.{any_witness, any_from}
 use Rattle.hub_reconcile.specs.laws.Each.{all_at}
 use Rattle.hub_reconcile.specs.laws.Looks.{seen_told, told_at, untold_at, told_paths, listed_below, among_listed, among_names, first_kept, first_parent}

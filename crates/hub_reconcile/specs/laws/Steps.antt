@@ -26,7 +26,7 @@ use Rattle.hub_reconcile.specs.View.{mark_eq, is_folder}
 use Rattle.hub_reconcile.specs.Items.{other, differs, going, coming, has_parent}
 use Rattle.hub_reconcile.specs.laws.Ascend.{same_list}
 use Rattle.hub_reconcile.specs.laws.Views.{scene, same_paths, mark_here, folder_seen, reach-names}
-use Rattle.hub_reconcile.specs.laws.Blocks.{Goes, trees, nothing_below, all_reached, going_all, coming_is, none_under, none_going}
+use Rattle.hub_reconcile.specs.laws.Below.{Goes, trees, nothing_below, all_reached, going_all, coming_is, none_under, none_going}
 
 -- Contents whose marks differ.
 apart_absent : (c d : Contents) → mark_eq (mark_of c) (mark_of d) ≡ false
@@ -171,8 +171,8 @@ module _ (P : Parts) (facts : IsProfile P) (A B : Replica) (O : Archive) (left :
       → is_directory (contents_at (R k) (parent p)) ≡ true
   parent_there k p h = by_parent k (parent p) h
 
-  abbrev block : Side → Path → List Path
-  block k p = reverse (going V (other k) p) ++ p ∷ coming V (other k) p
+  abbrev group : Side → Path → List Path
+  group k p = reverse (going V (other k) p) ++ p ∷ coming V (other k) p
 
   module _ (k : Side) (p : Path) (d : differs V p ≡ true) (goes : Goes V p k) (M : Replica)
       (t : IsTree M)
@@ -196,7 +196,7 @@ module _ (P : Parts) (facts : IsProfile P) (A B : Replica) (O : Archive) (left :
         in_under M p q w.0 (ap is_absent (same q (below_over p q w.0)) ∙ w.1))
 
     abbrev Left_by : Replica → Type 0
-    Left_by K = (sets M (each (s k) (block k p)) ≡ Some K) × IsTree K
+    Left_by K = (sets M (each (s k) (group k p)) ≡ Some K) × IsTree K
         × ((q : Path) → contents_at K q ≡ cond (reach P q && is_over p q) (s k q) (contents_at M q))
 
     itself : (q : Path) → path_eq q p ≡ true → (is_over p q ≡ true) × (reach P q ≡ true)
@@ -219,10 +219,10 @@ module _ (P : Parts) (facts : IsProfile P) (A B : Replica) (O : Archive) (left :
         none ∙ sym under_alike in
         let come : coming V (other k) p ≡ [] = coming_is P A B O left right (other k) p
         ∙ ap (filter (reach P)) (none_under P A B O left right (other k) p none) in
-        let one : block k p ≡ reverse (under M p) ++ p
+        let one : group k p ≡ reverse (under M p) ++ p
         ∷ [] = ap (λ xs. reverse xs ++ p ∷ coming V (other k) p) gone
         ∙ ap (λ ys. reverse (under M p) ++ p ∷ ys) come in
-        let two : each (s k) (block k p) ≡ each (λ _. contents.Absent) (reverse (under M p))
+        let two : each (s k) (group k p) ≡ each (λ _. contents.Absent) (reverse (under M p))
         ++ (p, s k p) ∷ [] =
         ap (each (s k)) one ∙ (each-append (s k) (reverse (under M p)) (p ∷ [])
         ∙ ap (λ cs. cs ++ (p, s k p) ∷ [])
@@ -254,10 +254,10 @@ module _ (P : Parts) (facts : IsProfile P) (A B : Replica) (O : Archive) (left :
         let it : contents.Directory ≡ s k p = sym (is_a_directory (s k p) dir) in
         let w = item_comes M (R (other k)) p (reach P) t (trees P A B O left right (other k))
         (reach-names P p reached) up (ap is_directory here ∙ none) (closed (other k) p reached) in
-        let one : block k p ≡ p ∷ filter (reach P) (under (R (other k)) p) =
+        let one : group k p ≡ p ∷ filter (reach P) (under (R (other k)) p) =
         ap (λ xs. reverse xs ++ p ∷ coming V (other k) p) (none_going P A B O left right k p none)
         ∙ ap (λ ys. p ∷ ys) (coming_is P A B O left right (other k) p) in
-        let two : each (s k) (block k p) ≡ (p, contents.Directory)
+        let two : each (s k) (group k p) ≡ (p, contents.Directory)
         ∷ each (s k) (filter (reach P) (under (R (other k)) p)) =
         ap (each (s k)) one
         ∙ ap (λ c. (p, c) ∷ each (s k) (filter (reach P) (under (R (other k)) p))) (sym it) in (

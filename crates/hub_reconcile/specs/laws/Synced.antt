@@ -36,7 +36,7 @@ use Rattle.hub_reconcile.specs.declared.item.Item.{Item}
 use Rattle.hub_reconcile.specs.laws.Each.{none_at}
 use Rattle.hub_reconcile.specs.laws.Over.{find-longer, least}
 use Rattle.hub_reconcile.specs.laws.Views.{scene, same_paths, paths_same, paths_sorted, in_paths}
-use Rattle.hub_reconcile.specs.laws.Blocks.{Goes, goes, trees}
+use Rattle.hub_reconcile.specs.laws.Below.{Goes, goes, trees}
 use Rattle.hub_reconcile.specs.laws.Steps.{step, each-append, one_present, differ}
 
 -- The paths that changes set on a side.
@@ -70,10 +70,10 @@ both_or_none : (b : Bool) (xs ys : List Path) → cond b xs [] ++ cond b ys [] �
 both_or_none true xs ys = refl
 both_or_none false xs ys = refl
 
-block_paths : (V : View) (from k : Side) (p : Path)
+group_paths : (V : View) (from k : Side) (p : Path)
     → paths_on k (changes V from p)
     ≡ cond (side_eq (other from) k) (reverse (going V from p) ++ p ∷ coming V from p) []
-block_paths V from k p =
+group_paths V from k p =
     paths_on-append k (map (λ q. change (other from) q mark.Absent) (reverse (going V from p)))
     (map (λ q. change (other from) q (V.mark from q)) (p ∷ coming V from p))
     ∙ ((λ i. side_paths (other from) k (λ _. mark.Absent) (reverse (going V from p)) i
@@ -219,13 +219,13 @@ module _ (P : Parts) (facts : IsProfile P) (A B : Replica) (O : Archive) (left :
       → (K : Replica) × Leaves k M (paths_on k (changes_by V p f)) (λ q. is_over p q && is_to k f) K
   one_item k p M (Skip why) e d t same above = (M, nothing_set k p M [] t refl)
   one_item Left p M (To Left) e d t same above =
-      all_set Left p M _ d (goes V p Left e) t same above (block_paths V Right Left p)
+      all_set Left p M _ d (goes V p Left e) t same above (group_paths V Right Left p)
   one_item Right p M (To Right) e d t same above =
-      all_set Right p M _ d (goes V p Right e) t same above (block_paths V Left Right p)
+      all_set Right p M _ d (goes V p Right e) t same above (group_paths V Left Right p)
   one_item Left p M (To Right) e d t same above =
-      (M, nothing_set Left p M _ t (block_paths V Left Left p))
+      (M, nothing_set Left p M _ t (group_paths V Left Left p))
   one_item Right p M (To Left) e d t same above =
-      (M, nothing_set Right p M _ t (block_paths V Right Right p))
+      (M, nothing_set Right p M _ t (group_paths V Right Right p))
 
   abbrev all_changes : List Path → List Change
   all_changes ps = flat_map (λ x. changes_by V x (fate V x)) ps

@@ -1,4 +1,4 @@
-use Rattle.hub_reconcile.specs.laws.Blocks.{blocked}
+use Rattle.hub_reconcile.specs.laws.Below.{blocked}
 use Rattle.hub_reconcile.proofs.laws.unreached_children_block_an_item.Goals as goal
 
 pub returns : goal.returns

@@ -1,6 +1,6 @@
 use Rattle.std.proofs.Common.{◌-◌, ◌++◌, ◌∷◌, [], List, take, drop, length, ap, sym, ◌∙◌, subst, append-nil, arith}
 use Rattle.hub_tree.specs.Marked.{marked_entries}
-use Rattle.hub_reconcile.specs.forms.Blocks.{HaveMarkNames}
+use Rattle.hub_reconcile.specs.forms.Groups.{HaveMarkNames}
 use Rattle.hub_reconcile.specs.Merge.{told_mark, told_marks}
 use Rattle.hub_reconcile.specs.declared.old_mark.OldMark.{OldMark}
 use Rattle.hub_reconcile.proofs.Loops.{head_rest, marks_next}

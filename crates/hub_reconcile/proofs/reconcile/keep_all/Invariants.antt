@@ -1,5 +1,5 @@
 use Rattle.std.proofs.Common.{◌≡◌, ◌++◌, length}
-use Rattle.hub_reconcile.specs.forms.Blocks.{HaveMarkNames, kept_marks}
+use Rattle.hub_reconcile.specs.forms.Groups.{HaveMarkNames, kept_marks}
 use Rattle.hub_reconcile.specs.Merge.{told_marks}
 use Rattle.hub_reconcile.proofs.reconcile.keep_all.Given as goal
 

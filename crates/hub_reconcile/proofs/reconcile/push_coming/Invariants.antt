@@ -1,5 +1,5 @@
 use Rattle.std.proofs.Common.{◌≡◌, ◌++◌, take}
-use Rattle.hub_reconcile.specs.forms.Blocks.{coming_rows}
+use Rattle.hub_reconcile.specs.forms.Groups.{coming_rows}
 use Rattle.hub_reconcile.proofs.reconcile.push_coming.Given as goal
 
 abbrev pub invariant-loop-row : goal.invariant-loop-row

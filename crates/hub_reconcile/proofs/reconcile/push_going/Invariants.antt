@@ -1,5 +1,5 @@
 use Rattle.std.proofs.Common.{◌≡◌, ◌≤◌, ◌++◌, length, take}
-use Rattle.hub_reconcile.specs.forms.Blocks.{going_rows}
+use Rattle.hub_reconcile.specs.forms.Groups.{going_rows}
 use Rattle.hub_reconcile.proofs.reconcile.push_going.Given as goal
 
 abbrev pub invariant-loop-left : goal.invariant-loop-left

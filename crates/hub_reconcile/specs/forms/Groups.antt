@@ -1,4 +1,4 @@
--- Blocks: the rows of a picture are cut into items, each with what is below it, and paths at which
+-- Groups: the rows of a picture are cut into items, each with what is below it, and paths at which
 -- nothing differs.
 use Rattle.std.specs.Prelude.{◌≡◌, ◌<◌, true, false, List, [], ◌∷◌, ◌++◌, length, map, reverse, filter, Option, None, Some, if◌then◌else◌}
 use Rattle.std.specs.List.{flat_map, take_while}
@@ -10,7 +10,7 @@ use Rattle.hub_tree.specs.declared.contents.Mark.TheVariants as mark
 use Rattle.hub_reconcile.specs.Items.{other, item_over, is_item, fate, below, change}
 use Rattle.hub_reconcile.specs.Rows.{AreRows, is_different, is_going, is_coming, mark_on, paths_of}
 use Rattle.hub_reconcile.specs.View.{View}
-use Rattle.hub_reconcile.specs.declared.block.Block.{Block}
+use Rattle.hub_reconcile.specs.declared.group.Group.{Group}
 use Rattle.hub_reconcile.specs.declared.change.Change.{Change}
 use Rattle.hub_reconcile.specs.declared.item.Fate.{Fate}
 use Rattle.hub_reconcile.specs.declared.item.Fate.TheVariants.{To, Skip}
@@ -35,29 +35,29 @@ abbrev pub IsFated : View → Path → List Path → Option Fate → Type 0
 IsFated V p ps None = (ps ≡ []) × (item_over V p ≡ None)
 IsFated V p ps (Some f) = (ps ≡ below V p) × (is_item V p ≡ true) × (fate V p ≡ f)
 
-pub record IsBlock (V : View) (b : Block) : Type 0 where
+pub record IsGroup (V : View) (b : Group) : Type 0 where
   pub rows : AreRows V (b.first.now ∷ b.below.now)
   pub fated : IsFated V b.first.now.path.now (paths_of b.below.now) b.fate
 
-abbrev pub AreBlocks : View → List Block → Type 0
-AreBlocks V [] = Unit {0}
-AreBlocks V (b ∷ bs) = IsBlock V b × AreBlocks V bs
+abbrev pub AreGroups : View → List Group → Type 0
+AreGroups V [] = Unit {0}
+AreGroups V (b ∷ bs) = IsGroup V b × AreGroups V bs
 
-abbrev pub block_paths : Block → List Path
-block_paths b = b.first.now.path.now ∷ paths_of b.below.now
+abbrev pub group_paths : Group → List Path
+group_paths b = b.first.now.path.now ∷ paths_of b.below.now
 
--- The blocks of a picture: each path of the view is in one, in order.
-pub record IsPartition (V : View) (bs : List Block) : Type 0 where
-  pub paths : flat_map block_paths bs ≡ V.paths
-  pub blocks : AreBlocks V bs
+-- The groups of a picture: each path of the view is in one, in order.
+pub record IsPartition (V : View) (bs : List Group) : Type 0 where
+  pub paths : flat_map group_paths bs ≡ V.paths
+  pub groups : AreGroups V bs
 
--- What a block says of items, changes and the new archive.
+-- What a group says of items, changes and the new archive.
 abbrev pub item_by : Path → Option Fate → List Item
 item_by p None = []
 item_by p (Some f) = record { path = p; fate = f } ∷ []
 
-abbrev pub block_items : Block → List Item
-block_items b = item_by b.first.now.path.now b.fate
+abbrev pub group_items : Group → List Item
+group_items b = item_by b.first.now.path.now b.fate
 
 abbrev pub row_change : Side → Row → Mark → Change
 row_change from r m = change (other from) r.path.now m
@@ -82,8 +82,8 @@ changes_fated r rs None = []
 changes_fated r rs (Some (To side)) = row_changes (other side) r rs
 changes_fated r rs (Some (Skip why)) = []
 
-abbrev pub block_changes : Block → List Change
-block_changes b = changes_fated b.first.now b.below.now b.fate
+abbrev pub group_changes : Group → List Change
+group_changes b = changes_fated b.first.now b.below.now b.fate
 
 -- The mark of a row in the new archive.
 abbrev pub mark_fated : Option Fate → Row → Mark
@@ -94,8 +94,8 @@ mark_fated (Some (Skip why)) r = r.old
 abbrev pub row_told : Option Fate → Row → Path × Mark
 row_told f r = (r.path.now, mark_fated f r)
 
-abbrev pub block_marks : Block → List (Path × Mark)
-block_marks b = map (row_told b.fate) (b.first.now ∷ b.below.now)
+abbrev pub group_marks : Group → List (Path × Mark)
+group_marks b = map (row_told b.fate) (b.first.now ∷ b.below.now)
 
 -- What an archive keeps of marks.
 abbrev pub kept_marks : List (Path × Mark) → List (Path × Mark)
@@ -106,14 +106,14 @@ abbrev pub HaveMarkNames : List (Path × Mark) → Type 0
 HaveMarkNames [] = Unit {0}
 HaveMarkNames (e ∷ es) = (0 < length e.0) × HaveMarkNames es
 
--- None of a block's paths is the whole replica.
+-- None of a group's paths is the whole replica.
 abbrev pub HaveNames : List Row → Type 0
 HaveNames [] = Unit {0}
 HaveNames (r ∷ rs) = (0 < length r.path.now) × HaveNames rs
 
-abbrev pub HasNames : Block → Type 0
+abbrev pub HasNames : Group → Type 0
 HasNames b = HaveNames (b.first.now ∷ b.below.now)
 
-abbrev pub HaveAllNames : List Block → Type 0
+abbrev pub HaveAllNames : List Group → Type 0
 HaveAllNames [] = Unit {0}
 HaveAllNames (b ∷ bs) = HasNames b × HaveAllNames bs

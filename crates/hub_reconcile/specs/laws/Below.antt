@@ -118,13 +118,13 @@ blocked_by k false true d e = (refl, refl)
 blocked_by k false false true e = absurd (false≢true (ap is_blocked e))
 blocked_by k false false false e = absurd (false≢true (ap is_blocked e))
 
-abbrev HasBlock : View → Path → Side → Type 0
-HasBlock V p from =
+abbrev HasBlocking : View → Path → Side → Type 0
+HasBlocking V p from =
     (list_any (λ c. not (is_allowed V c)) (changes V from p) ≡ false)
     × (list_any (blocks V) (changes V from p) ≡ true)
 
 blocked_from : (V : View) (p : Path) (o : Option Side) → fate_from V p o ≡ Skip reason.Blocked
-    → (from : Side) × (o ≡ Some from) × (HasBlock V p from)
+    → (from : Side) × (o ≡ Some from) × (HasBlocking V p from)
 blocked_from V p None e = absurd (false≢true (ap is_blocked e))
 blocked_from V p (Some from) e = (
   from,
@@ -133,9 +133,9 @@ blocked_from V p (Some from) e = (
       (list_any (blocks V) (changes V from p)) (has_parent V (other from) p) e,
 )
 
-from_block : (V : View) (p : Path) (from : Side) (o : Option Side) → o ≡ Some from
-    → HasBlock V p from → fate_from V p o ≡ Skip reason.Blocked
-from_block V p from o e h =
+from_blocking : (V : View) (p : Path) (from : Side) (o : Option Side) → o ≡ Some from
+    → HasBlocking V p from → fate_from V p o ≡ Skip reason.Blocked
+from_blocking V p from o e h =
     let rest : Fate = cond (has_parent V (other from) p) (To (other from)) (Skip reason.NoParent) in
     ap (fate_from V p) e
     ∙ (ap (λ b. cond b (Skip reason.Barred)
@@ -328,7 +328,7 @@ module _ (P : Parts) (A B : Replica) (O : Archive) (left : IsTree A) (right : Is
   blocked p h = (
     λ e. let w = blocked_from V p (source V p) e in
         (w.0, w.1, w.2.0, sym (same_blocks w.0 p h w.2.0) ∙ w.2.1),
-    λ w. from_block V p w.0 (source V p) w.1 (w.2, same_blocks w.0 p h w.2 ∙ w.3),
+    λ w. from_blocking V p w.0 (source V p) w.1 (w.2, same_blocks w.0 p h w.2 ∙ w.3),
   )
 
   module _ (k : Side) (p : Path) (h : reach P p ≡ true) (facts : Goes V p k) where

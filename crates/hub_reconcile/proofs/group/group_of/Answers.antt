@@ -1,14 +1,14 @@
 use Rattle.std.proofs.Common.{◌≡◌, ◌≤◌, ℕ, true, ◌∷◌, take, length, Some, ap, sym, ◌∙◌, subst}
 use Rattle.std.proofs.lemmas.List.{length-take-le}
 use Rattle.std.proofs.lemmas.List.Sums.{prefix_len-le-length}
-use Rattle.hub_reconcile.specs.forms.Blocks.{IsFated}
+use Rattle.hub_reconcile.specs.forms.Groups.{IsFated}
 use Rattle.hub_reconcile.specs.Rows.{AreRows, is_different, paths_of}
 use Rattle.hub_reconcile.specs.Shown.{shown}
 use Rattle.hub_reconcile.proofs.Pictured.{plain_fated, tops_rows, tops_below, tops_all, item_fated}
-use Rattle.hub_reconcile.proofs.block.block_of.Goals as goal
+use Rattle.hub_reconcile.proofs.group.group_of.Goals as goal
 
-pub returns-then-not-differs-clause-block : goal.returns-then-not-differs-clause-block
-returns-then-not-differs-clause-block c =
+pub returns-then-not-differs-clause-group : goal.returns-then-not-differs-clause-group
+returns-then-not-differs-clause-group c =
     let e = c.if-not-differs.true in
     record {
       rows = (c.requires.1.rows.0, tt);
@@ -30,8 +30,8 @@ fate_of-requires-clause-rows c =
     subst (λ n. AreRows (shown c.args.picture.now) (c.args.first.now ∷ take n c.args.after.now)) (sym c.count_below.ensures)
     (tops_rows c.args.picture.now c.requires.0 c.args.first.now c.args.after.now c.requires.1)
 
-pub returns-clause-block : goal.returns-clause-block
-returns-clause-block c =
+pub returns-clause-group : goal.returns-clause-group
+returns-clause-group c =
     let V = c.args.picture.now in
     let r = c.args.first.now in
     let rs = c.args.after.now in

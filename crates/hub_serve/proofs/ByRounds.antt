@@ -1,7 +1,7 @@
 -- A run by rounds, round by round.
 use Rattle.std.proofs.Common.{◌≡◌, ◌∙◌, ◌∷◌, ◌++◌, ◌+◌, inl, inr, ℕ, zero, suc, true, false, arith, cond, get_or}
 use Rattle.std.proofs.Common.{List, [], drop, length, None, Some, append-nil, append_assoc, refl, sym, ap, ap₂, subst}
-use Rattle.std.specs.Prelude.{◌≡◌, ◌<◌, Bool, Contains, not, slice_get, string_bytes}
+use Rattle.std.specs.Prelude.{◌≡◌, ◌<◌, Bool, Contains, Err, Ok, Result, not, slice_get, string_bytes}
 use Rattle.std.specs.List.{filter, find, position_or_len}
 use Rattle.std.proofs.Math.Seq.{drop-length}
 use Rattle.std.proofs.lemmas.Bool.{true≢false}
@@ -29,13 +29,13 @@ use Rattle.hub_job.specs.declared.outcome.Outcome.{Outcome}
 use Rattle.hub_schedule.specs.Simulated.{AreFinished}
 use Rattle.hub_runner.specs.Working.{AreWorkers, MayRun}
 use Rattle.hub_report.specs.Jobs.{lines_of_jobs}
+use Rattle.hub_report.specs.declared.run.Run.{Run}
 use Rattle.hub_report.specs.declared.rounds_run.RoundsRun.{RoundsRun}
 use Rattle.hub_job.specs.declared.run_fault.RunFault.{RunFault}
 use Rattle.hub_job.specs.declared.run_fault.RunFault.TheVariants as error
-use Rattle.hub_serve.specs.declared.run.Attempt.{Attempt}
-use Rattle.hub_serve.specs.declared.run.Attempt.TheVariants.{Ran, NotRun}
 use Rattle.hub_serve.specs.Rounds.{HasUnverifiedRound, IsUncut}
 use Rattle.hub_serve.specs.Runs.{ComesOf, IsRunOn, PreventsRun}
+use Rattle.hub_serve.proofs.Prevented.{prevents}
 use Rattle.hub_serve.specs.ByRounds.{AllFinished, AreRunFrom, Ends, HaveRun, IsAdded, IsBegun, RefusesWorkers}
 use Rattle.hub_serve.specs.ByRounds.{HasRunByRounds, IsFirstAlone, RefusesOneOf, is_alone, leaves_out}
 use Rattle.hub_serve.specs.ByRounds.{IsRoundRun, AddsRound, job_lines_of_rounds, not_run, round_set, final_state}
@@ -162,12 +162,12 @@ module _ (Rs : List Rule) (n : ℕ) (S : State) (rounds : List (List Parts)) (ma
 
   -- All its jobs are finished: so it goes on.
   pub went-on : AddsRound Rs Ps n old new → new.finished ≡ true → IsSoFar Rs n S rounds (many + 1) new
-  went-on step t = go step.attempt step.safe step.came step.added
+  went-on step t = go step.round step.safe step.came step.added
     where
-      go : (a : Attempt) → IsSafeSet (round_set Rs Ps) → ComesOf (round_set Rs Ps) old.state n a → IsAdded a old new
+      go : (a : Result Run RunFault) → IsSafeSet (round_set Rs Ps) → ComesOf (round_set Rs Ps) old.state n a → IsAdded a old new
           → IsSoFar Rs n S rounds (many + 1) new
-      go (NotRun e) safe came added = absurd (true≢false (sym t ∙ added.2))
-      go (Ran r) safe came added = record {
+      go (Err e) safe came added = absurd (true≢false (sym t ∙ added.3))
+      go (Ok r) safe came added = record {
         outcomes = s.outcomes ++ came.1.outcome ∷ [];
         many_are = length_push s.outcomes came.1.outcome ∙ ap (λ k. k + 1) s.many_are;
         run = round-run came.1.outcome safe came.0 came.1.run;
@@ -181,29 +181,29 @@ module _ (Rs : List Rule) (n : ℕ) (S : State) (rounds : List (List Parts)) (ma
 
   -- One isn't, or the round wasn't run: so it stops.
   pub stopped : AddsRound Rs Ps n old new → new.finished ≡ false → HaveRun Rs n S rounds new
-  stopped step f = go step.attempt step.safe step.came step.added
+  stopped step f = go step.round step.safe step.came step.added
     where
-      go : (a : Attempt) → IsSafeSet (round_set Rs Ps) → ComesOf (round_set Rs Ps) old.state n a → IsAdded a old new
+      go : (a : Result Run RunFault) → IsSafeSet (round_set Rs Ps) → ComesOf (round_set Rs Ps) old.state n a → IsAdded a old new
           → HaveRun Rs n S rounds new
-      go (NotRun e) safe came added =
+      go (Err e) safe came added =
           let next : not_run rounds s.outcomes ≡ Ps ∷ drop (suc (length s.outcomes)) rounds = from-here rounds (length s.outcomes) Ps here in
           record {
             outcomes = s.outcomes;
             run = s.run;
-            ends = subst (Ends Rs n S rounds s.outcomes) (sym added.3) (inr (record {
+            ends = subst (Ends Rs n S rounds s.outcomes) (sym added.4) (inr (record {
               finished = s.all;
               next = Ps;
               later = drop (suc (length s.outcomes)) rounds;
               not_run_are = next;
               safe = safe;
-              reason = subst (λ T. PreventsRun T Ps n e) s.left came;
+              reason = subst (λ T. PreventsRun T Ps n e) s.left (prevents old.state Ps n e added.0 came);
             }));
-            found = added.4 ∙ s.found;
-            lines = added.0 ∙ s.lines;
-            left = added.1 ∙ s.left;
+            found = added.5 ∙ s.found;
+            lines = added.1 ∙ s.lines;
+            left = added.2 ∙ s.left;
             finished = (λ t. absurd (true≢false (sym t ∙ f)), λ h. cc);
           }
-      go (Ran r) safe came added =
+      go (Ok r) safe came added =
           let unfinished : AllFinished (s.outcomes ++ came.1.outcome ∷ []) → ⊥ =
           λ all. true≢false (sym (came.1.finished.1 (last-finished s.outcomes came.1.outcome all)) ∙ (sym added.2 ∙ f)) in
           record {

@@ -8,6 +8,7 @@ pub mod Told
 pub mod Unsafe
 pub mod Parts
 pub mod ByRounds
+pub mod Prevented
 pub mod BundleStart
 pub mod Imports
 pub mod Mending

@@ -1,6 +1,6 @@
 -- Runs of the rounds of a set, one after another and in one state.
 use Rattle.std.specs.Prelude.{◌≡◌, ◌≢◌, ◌⊎◌, ◌↔◌, ◌<◌, ◌∷◌, ◌++◌, ⊤, ℕ, Bool, true, false}
-use Rattle.std.specs.Prelude.{Contains, IfErr, IfOk, Result, List, [], drop, length, Option, None, Some, string_bytes}
+use Rattle.std.specs.Prelude.{Contains, IfErr, IfOk, Result, Ok, Err, List, [], drop, length, Option, None, Some, string_bytes}
 use Rattle.std.specs.List.{find}
 use Rattle.hub_profile.specs.Parts.{Parts}
 use Rattle.hub_profile.specs.declared.rule.Rule.{Rule}
@@ -20,14 +20,13 @@ use Rattle.hub_rounds.specs.declared.rounds.Rounds.{Rounds}
 use Rattle.hub_rounds.specs.declared.subject.Subject.{Subject}
 use Rattle.hub_rounds.specs.declared.subject.Subject.TheVariants.{Pair, Alone, Nothing}
 use Rattle.hub_report.specs.Jobs.{lines_of_jobs}
+use Rattle.hub_report.specs.declared.run.Run.{Run}
 use Rattle.hub_report.specs.declared.rounds_run.RoundsRun.{RoundsRun}
 use Rattle.hub_job.specs.declared.run_fault.RunFault.{RunFault}
 use Rattle.hub_job.specs.declared.run_fault.RunFault.TheVariants as error
-use Rattle.hub_serve.specs.declared.run.Attempt.{Attempt}
-use Rattle.hub_serve.specs.declared.run.Attempt.TheVariants.{Ran, NotRun}
 use Rattle.hub_serve.specs.declared.task.Task.{Task}
 use Rattle.hub_serve.specs.declared.task.Task.TheVariants as task
-use Rattle.hub_serve.specs.Runs.{ComesOf, IsRunOn, PreventsRun}
+use Rattle.hub_serve.specs.Runs.{ComesOf, IsRunOn, PreventsRun, is_out_of_memory}
 use Rattle.hub_serve.specs.Rounds.{HasUnverifiedRound}
 
 -- The profiles of a round, with the rules of the set.
@@ -159,22 +158,24 @@ pub record IsBegun (count : ℕ) (r : RoundsRun) : Type 0 where
   pub finished : r.finished ≡ true
   pub error : r.error ≡ None
 
--- What came of a round is added to what those before it did and left.
-abbrev pub IsAdded : Attempt → RoundsRun → RoundsRun → Type 0
-IsAdded (Ran r) old new =
+-- What came of a round is added to what those before it did and left. Where memory was out, nothing
+-- is.
+abbrev pub IsAdded : Result Run RunFault → RoundsRun → RoundsRun → Type 0
+IsAdded (Ok r) old new =
     (string_bytes new.lines ≡ string_bytes old.lines ++ string_bytes r.lines)
     × (new.state ≡ r.state)
     × (new.finished ≡ r.finished) × (new.error ≡ old.error) × (new.rounds ≡ old.rounds)
-IsAdded (NotRun e) old new =
-    (string_bytes new.lines ≡ string_bytes old.lines) × (new.state ≡ old.state)
+IsAdded (Err e) old new =
+    (is_out_of_memory e ≡ false)
+    × (string_bytes new.lines ≡ string_bytes old.lines) × (new.state ≡ old.state)
     × (new.finished ≡ false) × (new.error ≡ Some e) × (new.rounds ≡ old.rounds)
 
 -- A round of a safe set was to be run on the state that those before it left, and that is added.
 pub record AddsRound (Rs : List Rule) (Ps : List Parts) (n : ℕ) (old new : RoundsRun) : Type 0 where
-  pub attempt : Attempt
+  pub round : Result Run RunFault
   pub safe : IsSafeSet (round_set Rs Ps)
-  pub came : ComesOf (round_set Rs Ps) old.state n attempt
-  pub added : IsAdded attempt old new
+  pub came : ComesOf (round_set Rs Ps) old.state n round
+  pub added : IsAdded round old new
 
 -- The claim holds of what was run by rounds, where this came of it.
 abbrev pub OfRoundsRun : Result RoundsRun CheckFault → (Members → ℕ → State → Type 0) → Type 0

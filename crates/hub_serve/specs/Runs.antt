@@ -1,7 +1,6 @@
 -- What is written below `safe` if jobs are to be run.
-use Rattle.std.specs.Prelude.{◌≡◌, ◌≢◌, ◌⊎◌, ◌↔◌, ◌++◌, ℕ, true, List, [], map, string_bytes}
-use Rattle.std.specs.Prelude.{Result, Ok, Err, alloc_error}
-use Rattle.std.specs.declared.alloc.AllocError.{AllocError}
+use Rattle.std.specs.Prelude.{◌≡◌, ◌≢◌, ◌⊎◌, ◌↔◌, ◌++◌, ℕ, Bool, true, false, List, [], map, string_bytes}
+use Rattle.std.specs.Prelude.{Result, Ok, Err}
 use Rattle.hub_profile.specs.Parts.{Parts}
 use Rattle.hub_cert.specs.Set.{Members, IsSafeSet, forbidden_by}
 use Rattle.hub_state.specs.State.{State}
@@ -12,12 +11,8 @@ use Rattle.hub_job.specs.declared.run_fault.RunFault.TheVariants as fault
 use Rattle.hub_schedule.specs.Simulated.{AreFinished, HaveEnded, IsPromised}
 use Rattle.hub_runner.specs.Working.{IsNotRun, MayRun}
 use Rattle.hub_report.specs.declared.run.Run.{Run}
-use Rattle.hub_report.specs.declared.run_answer.RunAnswer.{RunAnswer}
-use Rattle.hub_report.specs.declared.run_answer.RunAnswer.TheVariants as answer
 use Rattle.hub_report.specs.Jobs.{lines_of_jobs}
 use Rattle.hub_report.specs.Run.{error_line}
-use Rattle.hub_serve.specs.declared.run.Attempt.{Attempt}
-use Rattle.hub_serve.specs.declared.run.Attempt.TheVariants.{Ran, NotRun}
 use Rattle.hub_serve.specs.declared.task.Task.{Task}
 use Rattle.hub_serve.specs.declared.task.Task.TheVariants as task
 
@@ -44,30 +39,19 @@ abbrev pub PreventsRun : State → List Parts → ℕ → RunFault → Type 0
 PreventsRun S Ps n fault.OutOfMemory = ⊥
 PreventsRun S Ps n f = IsNotRun S Ps n f
 
--- What the attempt is then. A bad turn is of schedules alone.
-abbrev pub attempt_of : RunFault → Result Attempt AllocError
-attempt_of (fault.BadTurn turn) = Err alloc_error
-attempt_of fault.OutOfMemory = Err alloc_error
-attempt_of f = Ok (NotRun f)
+abbrev pub is_out_of_memory : RunFault → Bool
+is_out_of_memory fault.OutOfMemory = true
+is_out_of_memory f = false
 
--- The claim holds of what was to be run, where this is why it wasn't.
+-- The claim holds of what was to be run of a safe set, where this is why it wasn't.
 abbrev pub OfUnrun : RunFault → (Members → State → ℕ → Type 0) → Type 0
-OfUnrun f C = (M : Members) (S : State) (n : ℕ) → IsNotRun S M.profiles n f → C M S n
+OfUnrun f C =
+    (M : Members) (S : State) (n : ℕ) → IsSafeSet M → IsNotRun S M.profiles n f → C M S n
 
--- What comes of an attempt to run the jobs of a set on a state by n workers.
-abbrev pub ComesOf : Members → State → ℕ → Attempt → Type 0
-ComesOf M S n (Ran r) = MayRun S M.profiles n × HasRun M S r
-ComesOf M S n (NotRun e) = PreventsRun S M.profiles n e
-
--- The claim holds of what was to be run of a safe set, where this came of it.
-abbrev pub OfAttempt : Attempt → (Members → State → ℕ → Type 0) → Type 0
-OfAttempt attempt C =
-    (M : Members) (S : State) (n : ℕ) → IsSafeSet M → ComesOf M S n attempt → C M S n
-
--- What is answered to an attempt.
-abbrev pub answer_of : Attempt → RunAnswer
-answer_of (Ran r) = answer.Ran r
-answer_of (NotRun e) = answer.NotRun e
+-- What comes of the jobs of a set that are to be run on a state by n workers.
+abbrev pub ComesOf : Members → State → ℕ → Result Run RunFault → Type 0
+ComesOf M S n (Ok r) = MayRun S M.profiles n × HasRun M S r
+ComesOf M S n (Err f) = IsNotRun S M.profiles n f
 
 -- The jobs of a safe set were to be run, and were run: they left this,
 pub record HasRunAs (t : Task) (M : Members) (r : Run) : Type 0 where

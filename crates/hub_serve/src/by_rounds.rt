@@ -12,11 +12,11 @@ ghost use Rattle.hub_serve.specs.Told.{IsToldAnyway};
 ghost use Rattle.hub_serve.specs.declared.task.Task.TheVariants as task;
 
 use crate::progress::{Goals, Progress};
-use crate::run::{Attempt, run_jobs};
+use crate::run::{is_out_of_memory, run_jobs};
 use hub_cert::{CheckFault, ProfileSet};
 use hub_job::RunFault;
 use hub_profile::{Profile, Rules};
-use hub_report::{Report, RoundsRun, RunAnswer};
+use hub_report::{Report, RoundsRun, Run, RunAnswer};
 use hub_rounds::{Clashes, Rounds, RoundsFault, Subject, clashes_of, rounds_of, subject_of};
 use hub_runner::WORKERS;
 use hub_search::check_with_progress;
@@ -219,24 +219,27 @@ fn run_made<T: Threads + Wait + Sync, P: Progress + Sync>(
     ensures refused { IfErr result (RefusesRound set.now) }
 {
     let verified = check_with_progress(alloc, set, &Goals { progress })?;
-    let attempt = run_jobs(rt, alloc, &verified, &run.state, workers, progress)?;
-    add(run, attempt)?;
+    let round = run_jobs(rt, alloc, &verified, &run.state, workers, progress);
+    add(run, round)?;
     Ok(())
 }
 
-/// Adds what came of a round.
-fn add(run: &mut RoundsRun, attempt: Attempt) -> Result<(), AllocError>
-    ensures { OnOk result (IsAdded attempt run.old run.new) }
+/// Adds what came of a round. It fails if memory was out.
+fn add(run: &mut RoundsRun, round: Result<Run, RunFault>) -> Result<(), AllocError>
+    ensures { OnOk result (IsAdded round run.old run.new) }
 {
-    match attempt {
-        Attempt::Ran(round) => {
+    match round {
+        Ok(round) => {
             run.lines.push_str(round.lines.as_str())?;
             run.state = round.state;
             run.finished = round.finished;
         }
-        Attempt::NotRun(error) => {
+        Err(fault) => {
+            if is_out_of_memory(&fault) {
+                return Err(AllocError);
+            }
             run.finished = false;
-            run.error = Some(error);
+            run.error = Some(fault);
         }
     }
     Ok(())

@@ -6,7 +6,8 @@ ghost use Rattle.hub_schedule.specs.Simulated.{AreFinished, HaveEnded};
 ghost use Rattle.hub_runner.specs.Working.{IsNotRun, MayRun};
 ghost use Rattle.hub_report.specs.Report.{unread_by};
 ghost use Rattle.hub_serve.specs.Told.{IsToldAnyway};
-ghost use Rattle.hub_serve.specs.Runs.{ComesOf, HasRun, IsPromisedOf, IsRunOn, OfAttempt, OfUnrun, answer_of, attempt_of};
+ghost use Rattle.hub_serve.specs.Runs as runs;
+ghost use Rattle.hub_serve.specs.Runs.{ComesOf, HasRun, IsPromisedOf, IsRunOn, OfUnrun};
 ghost use Rattle.hub_serve.specs.declared.task.Task.TheVariants as task;
 
 use crate::progress::{Jobs, Progress};
@@ -19,15 +20,6 @@ use hub_state::State;
 use std::alloc::{AllocError, Global};
 use std::sync::Wait;
 use std::thread::Threads;
-
-/// What came of an attempt to run the jobs of a safe set.
-#[derive(Drop)]
-pub enum Attempt {
-    /// They were run.
-    Ran(Run),
-    /// They weren't, for this reason.
-    NotRun(RunFault),
-}
 
 /// Runs the jobs of a safe set on a state, by that many workers, and returns the answer.
 pub fn run_set<'a, T: Threads + Wait + Sync, P: Progress + Sync>(
@@ -42,21 +34,28 @@ pub fn run_set<'a, T: Threads + Wait + Sync, P: Progress + Sync>(
     ensures read { unread_by result ≡ None }
 {
     match run_jobs(rt, alloc, verified, state, workers, progress) {
-        Ok(attempt) => report_on_attempt(attempt),
-        Err(AllocError) => Report::OutOfMemory,
+        Ok(run) => Report::Run(RunAnswer::Ran(run)),
+        Err(fault) => report_on_unrun(fault),
     }
 }
 
-/// The answer with what came of the attempt to run the jobs.
-fn report_on_attempt<'a>(attempt: Attempt) -> Report<'a>
-    ensures told { OfAttempt attempt (λ M S n. IsToldAnyway (task.RunJobs n S) M result) }
-    ensures same { result ≡ Report.Run (answer_of attempt) }
+/// The answer that the jobs weren't run, or that memory is out.
+fn report_on_unrun<'a>(fault: RunFault) -> Report<'a>
+    ensures told { OfUnrun fault (λ M S n. IsToldAnyway (task.RunJobs n S) M result) }
     ensures read { unread_by result ≡ None }
 {
-    match attempt {
-        Attempt::Ran(run) => Report::Run(RunAnswer::Ran(run)),
-        Attempt::NotRun(error) => Report::Run(RunAnswer::NotRun(error)),
+    if is_out_of_memory(&fault) {
+        Report::OutOfMemory
+    } else {
+        Report::Run(RunAnswer::NotRun(fault))
     }
+}
+
+/// Returns whether memory is out.
+pub(crate) fn is_out_of_memory(fault: &RunFault) -> bool
+    ensures { result ≡ runs.is_out_of_memory fault.now }
+{
+    matches!(fault, RunFault::OutOfMemory)
 }
 
 /// Runs the jobs of a safe set on a state, by that many workers.
@@ -67,44 +66,14 @@ pub(crate) fn run_jobs<T: Threads + Wait + Sync, P: Progress + Sync>(
     state: &State,
     workers: u8,
     progress: &P,
-) -> Result<Attempt, AllocError>
+) -> Result<Run, RunFault>
     ensures safe { IsSafeSet verified.now }
-    ensures came { IfOk result (ComesOf verified.now state.now workers) }
+    ensures came { ComesOf verified.now state.now workers result }
 {
     let profiles = verified.set().profiles();
-    match run_watched(rt, alloc, verified, state, usize::from(workers), progress) {
-        Ok(outcome) => Ok(Attempt::Ran(run_of(alloc, profiles, outcome)?)),
-        Err(fault) => not_run(fault),
-    }
-}
-
-/// Runs the jobs as `run` does, and tells the progress of each that has ended.
-fn run_watched<T: Threads + Wait + Sync, P: Progress + Sync>(
-    rt: &T,
-    alloc: Global,
-    verified: &Verified<'_>,
-    state: &State,
-    workers: usize,
-    progress: &P,
-) -> Result<Outcome, RunFault>
-    ensures promise { IfOk result (IsPromisedOf verified.now state.now) }
-    ensures ended { IfOk result (λ o. HaveEnded o.jobs) }
-    ensures run { IfOk result (λ o. MayRun state.now verified.now.profiles workers) }
-    ensures refused { IfErr result (IsNotRun state.now verified.now.profiles workers) }
-{
-    let jobs = Jobs::new(progress, verified.set().profiles().len());
-    run(rt, alloc, verified, state, workers, &jobs)
-}
-
-/// Why the jobs weren't run, or that memory is out: `run` returns no `BadTurn`, which is of schedules alone.
-fn not_run(fault: RunFault) -> Result<Attempt, AllocError>
-    ensures came { OfUnrun fault (λ M S n. IfOk result (ComesOf M S n)) }
-    ensures told { result ≡ attempt_of fault }
-{
-    match fault {
-        RunFault::BadTurn { .. } | RunFault::OutOfMemory => Err(AllocError),
-        _ => Ok(Attempt::NotRun(fault)),
-    }
+    let jobs = Jobs::new(progress, profiles.len());
+    let outcome = run(rt, alloc, verified, state, usize::from(workers), &jobs)?;
+    Ok(run_of(alloc, profiles, outcome)?)
 }
 
 /// What the profiles' jobs did, and the state that they left.

@@ -8,7 +8,9 @@ use Rattle.std.specs.Str.Parse.{digits_value, without_leading_plus}
 use Rattle.clap.specs.Kinds.{Kinds}
 use Rattle.clap.specs.Simple.{on_top}
 use Rattle.clap.specs.ValueTests.{is_unsigned_in}
-use Rattle.clap.specs.Words.{App, Row, Rule, Text, all_of, fault_of, first_of, new_app, new_rule}
+use Rattle.clap.specs.declared.builder.command.Command.{Command}
+use Rattle.clap.specs.declared.builder.command.Command.TheViews.{out-Command as fields_of}
+use Rattle.clap.specs.Words.{App, Row, Rule, Text, all_of, app_of, fault_of, first_of, new_app, new_rule}
 use Rattle.clap.specs.Words.{one_of, subcommand_of, with_rule, with_subcommand}
 use Rattle.clap.specs.declared.builder.action.ArgAction.TheVariants.{Append, SetTrue}
 use Rattle.clap.specs.declared.builder.value_parser.ValueParser.TheVariants.{Signed}
@@ -22,6 +24,10 @@ use Rattle.hub_cli.specs.declared.words.Question.TheVariants.{Clashes, Graph, Ro
 use Rattle.hub_cli.specs.declared.words.Reading.{Reading}
 use Rattle.hub_cli.specs.declared.words.Reading.TheVariants.{Plain, Unison}
 use Rattle.hub_cli.specs.declared.words.TheConstants.{DEFAULT_WORKERS_TEXT}
+
+-- A command of this application, none of whose options is that of its subcommands, too.
+abbrev pub IsCommand : App → Command → Type 0
+IsCommand app c = (app_of c ≡ app) × ((fields_of c).has_globals ≡ false)
 
 -- a required operand
 abbrev pub operand : Text → Rule

@@ -7,7 +7,7 @@ ghost use Rattle.clap.specs.Words.{app_of, new_app, rule_of, with_rule};
 ghost use Rattle.clap.specs.declared.builder.command.Command.TheViews.{out-Command as fields_of};
 ghost use Rattle.hub_cli.specs.Words as words;
 ghost use Rattle.hub_cli.specs.Words.{about_app, checker_app, clashes_app, hubsync_app, import_app, mend_app, reach_app, reading_app};
-ghost use Rattle.hub_cli.specs.Words.{run_app, set_app, top_app, with_app};
+ghost use Rattle.hub_cli.specs.Words.{IsCommand, run_app, set_app, top_app, with_app};
 
 use crate::help::{
     CERTIFY, CHECK, CLASHES, HUBSYNC, Help, IMPORT, LONG, MEND, REACH, ROUNDS, RUN, VERIFY,
@@ -35,8 +35,7 @@ fn plain_command<'a>(
     name: &'a str,
     help: Help,
 ) -> Result<Box<Command<'a>>, AllocError>
-    ensures app { IfOk result (λ c. app_of c.value ≡ new_app name.now) }
-    ensures local { IfOk result (λ c. (fields_of c.value).has_globals ≡ false) }
+    ensures { IfOk result (λ c. IsCommand (new_app name.now) c.value) }
 {
     boxed(
         alloc,
@@ -57,9 +56,8 @@ fn with_argument<'a>(
 ) -> Result<Box<Command<'a>>, AllocError>
     requires local { (fields_of command.value).has_globals ≡ false }
     requires arg_local { arg.global ≡ false }
-    ensures app { IfOk result
-        (λ c. app_of c.value ≡ with_rule (app_of command.entry.value) (rule_of arg.entry)) }
-    ensures local { IfOk result (λ c. (fields_of c.value).has_globals ≡ false) }
+    ensures { IfOk result
+        (λ c. IsCommand (with_rule (app_of command.entry.value) (rule_of arg.entry)) c.value) }
 {
     boxed(alloc, Box::into_inner(command).arg(arg))
 }
@@ -121,17 +119,15 @@ fn with_file_option<'a>(
     help: &'a str,
 ) -> Result<Box<Command<'a>>, AllocError>
     requires { (fields_of command.value).has_globals ≡ false }
-    ensures app { IfOk result (λ c. app_of c.value
-        ≡ with_rule (app_of command.entry.value) (words.file_option name.now)) }
-    ensures local { IfOk result (λ c. (fields_of c.value).has_globals ≡ false) }
+    ensures { IfOk result (λ c. IsCommand
+        (with_rule (app_of command.entry.value) (words.file_option name.now)) c.value) }
 {
     with_argument(alloc, command, file_option(alloc, name, help))
 }
 
 /// A command about the set, which may take files.
 fn set_command<'a>(alloc: Global, name: &'a str, help: Help) -> Result<Box<Command<'a>>, AllocError>
-    ensures app { IfOk result (λ c. app_of c.value ≡ set_app name.now) }
-    ensures local { IfOk result (λ c. (fields_of c.value).has_globals ≡ false) }
+    ensures { IfOk result (λ c. IsCommand (set_app name.now) c.value) }
 {
     let command = with_profiles(alloc, plain_command(alloc, name, help)?)?;
     let command = with_file_option(alloc, command, "state", "The file of the state")?;
@@ -146,9 +142,8 @@ fn with_profiles<'a>(
     command: Box<Command<'a>>,
 ) -> Result<Box<Command<'a>>, AllocError>
     requires { (fields_of command.value).has_globals ≡ false }
-    ensures app { IfOk result
-        (λ c. app_of c.value ≡ words.with_profiles (app_of command.entry.value)) }
-    ensures local { IfOk result (λ c. (fields_of c.value).has_globals ≡ false) }
+    ensures { IfOk result
+        (λ c. IsCommand (words.with_profiles (app_of command.entry.value)) c.value) }
 {
     let command = with_argument(alloc, command, files_operand(alloc))?;
     with_file_option(alloc, command, "rules", "The file of the rules")
@@ -157,9 +152,8 @@ fn with_profiles<'a>(
 /// A command that may have `--strict`.
 fn with_strict<'a>(alloc: Global, command: Box<Command<'a>>) -> Result<Box<Command<'a>>, AllocError>
     requires { (fields_of command.value).has_globals ≡ false }
-    ensures app { IfOk result (λ c. app_of c.value
-        ≡ with_rule (app_of command.entry.value) words.strict_flag) }
-    ensures local { IfOk result (λ c. (fields_of c.value).has_globals ≡ false) }
+    ensures { IfOk result
+        (λ c. IsCommand (with_rule (app_of command.entry.value) words.strict_flag) c.value) }
 {
     let strict = "Exit with 1 in place of 0 if a yes may mislead";
     with_argument(alloc, command, flag(alloc, "strict", strict))
@@ -180,8 +174,7 @@ fn workers_option<'a>(alloc: Global) -> Arg<'a>
 
 /// The command `run`.
 fn run_command<'a>(alloc: Global) -> Result<Box<Command<'a>>, AllocError>
-    ensures app { IfOk result (λ c. app_of c.value ≡ run_app) }
-    ensures local { IfOk result (λ c. (fields_of c.value).has_globals ≡ false) }
+    ensures { IfOk result (λ c. IsCommand run_app c.value) }
 {
     let command = set_command(alloc, "run", RUN)?;
     let command = with_argument(alloc, command, workers_option(alloc))?;
@@ -192,9 +185,8 @@ fn run_command<'a>(alloc: Global) -> Result<Box<Command<'a>>, AllocError>
 /// A command that may have `--unison`.
 fn with_unison<'a>(alloc: Global, command: Box<Command<'a>>) -> Result<Box<Command<'a>>, AllocError>
     requires { (fields_of command.value).has_globals ≡ false }
-    ensures app { IfOk result
-        (λ c. app_of c.value ≡ words.with_unison (app_of command.entry.value)) }
-    ensures local { IfOk result (λ c. (fields_of c.value).has_globals ≡ false) }
+    ensures { IfOk result
+        (λ c. IsCommand (words.with_unison (app_of command.entry.value)) c.value) }
 {
     let unison = "Answer about what Unison 2.52 may do by the profiles";
     with_argument(alloc, command, flag(alloc, "unison", unison))
@@ -203,9 +195,7 @@ fn with_unison<'a>(alloc: Global, command: Box<Command<'a>>) -> Result<Box<Comma
 /// A command that may have a table of hosts and `--verbose`.
 fn with_hosts<'a>(alloc: Global, command: Box<Command<'a>>) -> Result<Box<Command<'a>>, AllocError>
     requires { (fields_of command.value).has_globals ≡ false }
-    ensures app { IfOk result
-        (λ c. app_of c.value ≡ words.with_hosts (app_of command.entry.value)) }
-    ensures local { IfOk result (λ c. (fields_of c.value).has_globals ≡ false) }
+    ensures { IfOk result (λ c. IsCommand (words.with_hosts (app_of command.entry.value)) c.value) }
 {
     let hosts = "For Unison, the file of a table: which path stands for the / of a host";
     let command = with_file_option(alloc, command, "hosts", hosts)?;
@@ -219,8 +209,7 @@ fn reading_command<'a>(
     name: &'a str,
     help: Help,
 ) -> Result<Box<Command<'a>>, AllocError>
-    ensures app { IfOk result (λ c. app_of c.value ≡ reading_app name.now) }
-    ensures local { IfOk result (λ c. (fields_of c.value).has_globals ≡ false) }
+    ensures { IfOk result (λ c. IsCommand (reading_app name.now) c.value) }
 {
     let command = set_command(alloc, name, help)?;
     let command = with_unison(alloc, command)?;
@@ -229,8 +218,7 @@ fn reading_command<'a>(
 
 /// The command `clashes`.
 fn clashes_command<'a>(alloc: Global) -> Result<Box<Command<'a>>, AllocError>
-    ensures app { IfOk result (λ c. app_of c.value ≡ clashes_app) }
-    ensures local { IfOk result (λ c. (fields_of c.value).has_globals ≡ false) }
+    ensures { IfOk result (λ c. IsCommand clashes_app c.value) }
 {
     let command = reading_command(alloc, "clashes", CLASHES)?;
     let dot = "Draw what clashes as a graph for Graphviz";
@@ -239,8 +227,7 @@ fn clashes_command<'a>(alloc: Global) -> Result<Box<Command<'a>>, AllocError>
 
 /// The command `mend`.
 fn mend_command<'a>(alloc: Global) -> Result<Box<Command<'a>>, AllocError>
-    ensures app { IfOk result (λ c. app_of c.value ≡ mend_app) }
-    ensures local { IfOk result (λ c. (fields_of c.value).has_globals ≡ false) }
+    ensures { IfOk result (λ c. IsCommand mend_app c.value) }
 {
     let command = reading_command(alloc, "mend", MEND)?;
     let bundle = "Write the bundle with the lines in place";
@@ -249,8 +236,7 @@ fn mend_command<'a>(alloc: Global) -> Result<Box<Command<'a>>, AllocError>
 
 /// The command `import`.
 fn import_command<'a>(alloc: Global) -> Result<Box<Command<'a>>, AllocError>
-    ensures app { IfOk result (λ c. app_of c.value ≡ import_app) }
-    ensures local { IfOk result (λ c. (fields_of c.value).has_globals ≡ false) }
+    ensures { IfOk result (λ c. IsCommand import_app c.value) }
 {
     let command = with_profiles(alloc, plain_command(alloc, "import", IMPORT)?)?;
     let command = with_strict(alloc, command)?;
@@ -270,8 +256,7 @@ fn operand<'a>(alloc: Global, id: &'a str, value_name: &'a str, help: &'a str) -
 
 /// The command `reach`.
 fn reach_command<'a>(alloc: Global) -> Result<Box<Command<'a>>, AllocError>
-    ensures app { IfOk result (λ c. app_of c.value ≡ reach_app) }
-    ensures local { IfOk result (λ c. (fields_of c.value).has_globals ≡ false) }
+    ensures { IfOk result (λ c. IsCommand reach_app c.value) }
 {
     let profile = "The name of a profile in the input";
     let path = "A path below the roots; put -- before a word that begins with -";

@@ -6,7 +6,7 @@ use Rattle.hub_cli.proofs.app.about_command.Goals as goal
 
 pub returns : goal.returns
 returns c =
-    let with_clashes = c.in_ok-top-2.ensures ∙ ap₂ with_subcommand c.in_ok-top.ensures (ap (λ (a : App). a.top) c.in_ok-clashes_command.ensures.app) in
-    let with_mend = c.in_ok-top-3.ensures ∙ ap₂ with_subcommand with_clashes (ap (λ (a : App). a.top) c.in_ok-mend_command.ensures.app) in
+    let with_clashes = c.in_ok-top-2.ensures ∙ ap₂ with_subcommand c.in_ok-top.ensures (ap (λ (a : App). a.top) c.in_ok-clashes_command.ensures.0) in
+    let with_mend = c.in_ok-top-3.ensures ∙ ap₂ with_subcommand with_clashes (ap (λ (a : App). a.top) c.in_ok-mend_command.ensures.0) in
     let with_rounds = c.in_ok-top-4.ensures ∙ ap (λ (a : App). with_subcommand a (reading_app (codes "rounds")).top) with_mend in
-    IfOk-weaker c.with_command-3.result _ _ (λ r h. h ∙ ap₂ with_subcommand with_rounds (ap (λ (a : App). a.top) c.in_ok-import_command.ensures.app)) c.with_command-3.ensures
+    IfOk-weaker c.with_command-3.result _ _ (λ r h. h ∙ ap₂ with_subcommand with_rounds (ap (λ (a : App). a.top) c.in_ok-import_command.ensures.0)) c.with_command-3.ensures

@@ -40,21 +40,7 @@ enum Difference {
     Log,
 }
 
-/// The differences, the most dangerous first.
-const DIFFERENCES: [Difference; 10] = [
-    Difference::Arrow,
-    Difference::Star,
-    Difference::Bar,
-    Difference::Dot,
-    Difference::Byte,
-    Difference::Whole,
-    Difference::Creation,
-    Difference::Ignored,
-    Difference::Parent,
-    Difference::Log,
-];
-
-/// Those by which the reading for Unison is wider than hubsync's own.
+/// The differences by which the reading for Unison is wider than hubsync's own, the most dangerous first.
 const WIDER: [Difference; 8] = [
     Difference::Arrow,
     Difference::Star,
@@ -66,7 +52,7 @@ const WIDER: [Difference; 8] = [
     Difference::Ignored,
 ];
 
-/// Those that count where the profiles are read for Unison, too: the reading doesn't cover them.
+/// The other ones, which count where the profiles are read for Unison, too: the reading doesn't cover them.
 const UNCOVERED: [Difference; 2] = [Difference::Parent, Difference::Log];
 
 /// Says which lines of some profiles Unison reads otherwise: of each kind the first. Where the profiles are read for Unison,
@@ -77,19 +63,19 @@ pub(crate) fn say_otherwise_read(
     profiles: &[SourceLine<'_>],
     is_for_unison: bool,
 ) -> Said {
-    let differences: &[Difference] = if is_for_unison {
-        &UNCOVERED
-    } else {
-        &DIFFERENCES
-    };
-    say_differences(out, source, profiles, differences)
+    let read = read_all(source, profiles)?;
+    if !is_for_unison {
+        say_differences(out, source, &read, &WIDER)?;
+    }
+    say_differences(out, source, &read, &UNCOVERED)
 }
 
 /// What is said about the lines of some profiles that the reading for Unison makes wider: lines that begin with `hubsync: `, or
 /// nothing.
 pub fn wider_notes(source: &Source<'_>, profiles: &[SourceLine<'_>]) -> Result<String, AllocError> {
     let mut notes = Notes::new(source.alloc());
-    say_differences(&mut notes, source, profiles, &WIDER)?;
+    let read = read_all(source, profiles)?;
+    say_differences(&mut notes, source, &read, &WIDER)?;
     notes.into_text()
 }
 
@@ -97,12 +83,11 @@ pub fn wider_notes(source: &Source<'_>, profiles: &[SourceLine<'_>]) -> Result<S
 fn say_differences(
     out: &mut Notes,
     source: &Source<'_>,
-    profiles: &[SourceLine<'_>],
+    read: &Read<'_>,
     differences: &[Difference],
 ) -> Said {
-    let read = read_all(source, profiles)?;
     for difference in differences.iter() {
-        say_difference(out, source, &read, *difference)?;
+        say_difference(out, source, read, *difference)?;
     }
     Ok(())
 }

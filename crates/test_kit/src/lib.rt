@@ -1,7 +1,8 @@
 //! What the programs `test_*` share: how a table of questions is read and answered, in one dialect.
 //!
-//! - [`answer_table`] reads the table on standard input. What answers its questions is an [`Answers`]. A program that needs
-//!   threads takes the lines itself, by [`for_each_line`], and gives each to its [`Cases`].
+//! - [`answer_questions`] reads the table on standard input, and answers its questions by a function. [`answer_table`] does so by an
+//!   [`Answers`], where lines give something to the questions below them. A program that needs threads takes the lines itself, by
+//!   [`for_each_line`], and gives each to its [`Cases`].
 //! - [`cut`], [`first`], [`two`] and [`three`] split a question; [`bytes_of`], [`text_of`], [`character_of`], [`path_of`] and
 //!   [`contents_of`] read a field, and [`only_character`] a text.
 //! - [`answers_to_steps`] answers steps, one after another. What takes them is a [`Subject`].
@@ -50,4 +51,4 @@ pub use answers::{
 pub use escapes::{bytes_of, text_of};
 pub use fields::{character_of, contents_of, cut, first, only_character, path_of, three, two};
 pub use steps::{Subject, answers_to_steps};
-pub use table::{Answers, Cases, answer_table, for_each_line};
+pub use table::{Answers, Cases, answer_questions, answer_table, for_each_line};

@@ -88,6 +88,24 @@ pub fn answer_table<R: Input + Print + AllocGlobal, A: Answers>(
     cases.end(rt)
 }
 
+/// Answers the questions of standard input, where no line gives anything to those below it, by a function of a question's first word
+/// and of what follows the word's space.
+pub fn answer_questions<
+    R: Input + Print + AllocGlobal,
+    F: Fn(Global, &str, &str) -> Result<String>,
+>(rt: &R, answer: F) -> Result<()>
+    requires { (f : F) (a : _) (w : _) (t : _) → F.pre f a w t }
+{
+    let mut cases = Cases::new();
+    for_each_line(
+        rt,
+        |line|
+            requires { (f : F) (a : _) (w : _) (t : _) → F.pre f a w t }
+        { take_question(rt, &answer, &mut cases, line) },
+    )?;
+    cases.end(rt)
+}
+
 /// Takes each line of standard input, but no empty line, and none that begins with `#`.
 pub fn for_each_line<R: Input + AllocGlobal, F: FnMut(&str) -> Result<()>>(
     rt: &R,
@@ -171,27 +189,43 @@ fn take_line<R: Print + AllocGlobal, A: Answers>(
     )
 }
 
+/// Takes a line of a table of questions alone.
+fn take_question<R: Print + AllocGlobal, F: Fn(Global, &str, &str) -> Result<String>>(
+    rt: &R,
+    answer: &F,
+    cases: &mut Cases,
+    line: &str,
+) -> Result<()>
+    requires { (f : F) (a : _) (w : _) (t : _) → F.pre f a w t }
+{
+    cases.take_line(
+        rt,
+        line,
+        |question|
+            requires { (f : F) (a : _) (w : _) (t : _) → F.pre f a w t }
+        { answer_by(rt.alloc(), answer, question) },
+    )
+}
+
+/// Answers a question by a function.
+fn answer_by<F: Fn(Global, &str, &str) -> Result<String>>(
+    alloc: Global,
+    answer: &F,
+    line: &str,
+) -> Result<Option<String>>
+    requires { (f : F) (a : _) (w : _) (t : _) → F.pre f a w t }
+{
+    let question = expand(alloc, line)?;
+    let (word, fields) = cut(question.as_str());
+    Ok(Some(answer(alloc, word, fields)?))
+}
+
 /// Takes a line that gives something, or answers a question.
 fn answer_line<A: Answers>(alloc: Global, answers: &mut A, line: &str) -> Result<Option<String>> {
     if answers.takes(line)? {
         return Ok(None);
     }
-    answer_question(
-        alloc,
-        line,
-        |alloc, word, fields| answers.answer(alloc, word, fields),
-    )
-}
-
-/// Answers a question.
-fn answer_question<F: FnOnce(Global, &str, &str) -> Result<String>>(
-    alloc: Global,
-    line: &str,
-    answer: F,
-) -> Result<Option<String>>
-    requires { F.IsAlwaysCallable answer }
-{
     let question = expand(alloc, line)?;
     let (word, fields) = cut(question.as_str());
-    Ok(Some(answer(alloc, word, fields)?))
+    Ok(Some(answers.answer(alloc, word, fields)?))
 }

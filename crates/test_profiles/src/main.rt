@@ -26,20 +26,10 @@ mod texts;
 
 use anyhow::{Result, bail};
 use std::alloc::Global;
-use test_kit::{Answers, answer_table, cut, text_of};
-
-/// What answers the questions.
-#[derive(Drop)]
-struct Questions;
+use test_kit::{answer_questions, cut, text_of};
 
 fn main(rt: HostRuntime) -> Result<()> {
-    answer_table(&rt, &mut Questions)
-}
-
-impl Answers for Questions {
-    fn answer(&mut self, alloc: Global, word: &str, fields: &str) -> Result<String> {
-        answer(alloc, word, fields)
-    }
+    answer_questions(&rt, answer)
 }
 
 /// Answers a question about a subject. The fields begin with what is asked about it.

@@ -20,20 +20,10 @@ mod walkers;
 use crate::walkers::Way;
 use anyhow::{Result, bail};
 use std::alloc::Global;
-use test_kit::{Answers, answer_table};
-
-/// What answers the questions.
-#[derive(Drop)]
-struct Questions;
+use test_kit::answer_questions;
 
 fn main(rt: HostRuntime) -> Result<()> {
-    answer_table(&rt, &mut Questions)
-}
-
-impl Answers for Questions {
-    fn answer(&mut self, alloc: Global, word: &str, fields: &str) -> Result<String> {
-        answer(alloc, word, fields)
-    }
+    answer_questions(&rt, answer)
 }
 
 /// Answers a question about alphabets or automata, or about a profile.

@@ -4,7 +4,7 @@ use anyhow::Result;
 use std::time::{Clock, Duration, Instant};
 
 /// A time in milliseconds.
-pub(crate) fn milliseconds(time: Duration) -> u64 {
+fn milliseconds(time: Duration) -> u64 {
     let seconds = time.as_secs().saturating_mul(1000);
     seconds.saturating_add(u64::from(time.subsec_millis()))
 }
@@ -13,12 +13,6 @@ pub(crate) fn milliseconds(time: Duration) -> u64 {
 pub(crate) fn microseconds(time: Duration) -> u64 {
     let seconds = time.as_secs().saturating_mul(1_000_000);
     seconds.saturating_add(u64::from(time.subsec_micros()))
-}
-
-/// A time in nanoseconds.
-pub(crate) fn nanoseconds(time: Duration) -> u64 {
-    let seconds = time.as_secs().saturating_mul(1_000_000_000);
-    seconds.saturating_add(u64::from(time.subsec_nanos()))
 }
 
 /// Prints how long it is since the start of something, in milliseconds.

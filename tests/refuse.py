@@ -5,7 +5,7 @@
 
 Of PATH (crates/hubsync/out/hubsync) these are tried: `check`, `certify`, `verify` and `reach` on safe bundles and on those that
 are refused or faulty, and `run` by one, two and three workers on bundles with one, two and three jobs, in each thread. Standard
-error has nothing but lines that begin a remark on the answer with ample memory, or one of SAID_OF_REFUSED. An answer is right if
+error has at most remarks on the answer, and none if that is `fault: out of memory`. An answer is right if
 
 - it is that with ample memory;
 - it is `fault: out of memory`, status 2;
@@ -37,11 +37,6 @@ TOP = pathlib.Path(__file__).resolve().parent.parent
 NONE_EXPECTED = b'0 right\n'    # the last line of a test program whose question came without an answer
 OUT_OF_MEMORY = b'fault: out of memory\n'
 REFUSED = b'safe\nrun fault: ThreadRefused\n'
-# What is said where memory for a thread is refused, or memory for the input that notes are made of.
-SAID_OF_REFUSED = [
-    b'hubsync: the system gives no further thread: try --workers 1\n',
-    b'hubsync: note: the input is longer than what notes are made of: 1 MiB and 50,000 lines\n',
-]
 ROOTS = 'root = /srv/hub\nroot = /srv/s1\n'
 
 
@@ -53,7 +48,6 @@ class Runner:
         subprocess.run(['cc', '-O1', '-shared', '-fPIC', '-o', self.library, str(TOP / 'tests/refuse.c'), '-ldl'], check=True)
         self.lanes = os.cpu_count() or 1
         self.pool = concurrent.futures.ThreadPoolExecutor(self.lanes)
-        self.remarks = []   # on the answer with ample memory, the last one that was given
 
     def run(self, command, data, number=0, thread=0, threads=0):
         """Whether the request was refused, the status, the output and the errors."""
@@ -63,11 +57,8 @@ class Runner:
         os.close(theirs)
         said = os.read(ours, 1)
         os.close(ours)
-        lines = done.stderr.splitlines(True)
-        if number == 0:
-            self.remarks = [line for line in lines if line.startswith(b'hubsync: ')]
-        known = self.remarks + SAID_OF_REFUSED
-        errors = b''.join(line for line in lines if not any(remark.startswith(line) for remark in known))
+        has_remarks = done.stdout != OUT_OF_MEMORY
+        errors = b''.join(line for line in done.stderr.splitlines(True) if not (has_remarks and line.startswith(b'hubsync: ')))
         return said != b'', done.returncode, done.stdout, errors
 
     def each(self, command, data, judge, thread=0, threads=0, bound=None):
@@ -292,7 +283,7 @@ QUESTIONS = [
     ('test_checker', '', 'certificates ' + PAIR, ['OutOfMemory']),
     ('test_checker', '', 'check u hub disk: path = a | v hub disk: path = a/b', ['OutOfMemory']),
     ('test_checker', '', 'set ' + PAIR, ['OutOfMemory']),
-    ('test_schedules', SPOKES, 'rounds', None),
+    ('test_schedules', SPOKES, 'cycles', None),
     ('test_schedules', SPOKES, 'sequence', None),
     ('test_schedules', SPOKES, 'turns 0 1 0 1 0 1 0 1', None),
     ('test_schedules', SPOKES, 'job 0 log; turn; log; turn', TURNS),

@@ -12,7 +12,7 @@ use Rattle.hub_glob.specs.Glob.{matches}
 use Rattle.hub_glob.specs.Specification.{Specification}
 use Rattle.hub_reach.specs.Apart.{are_near}
 use Rattle.hub_fronts.specs.Fronts.{may_meet_one}
-use Rattle.hub_fronts.specs.laws.Fronts.{some-of}
+use Rattle.hub_text.specs.laws.Test.{some-of}
 use Rattle.hub_reach.specs.laws.General.{passing}
 use Rattle.hub_reach.specs.Reach.{may_at, reach, write, writes_at}
 use Rattle.hub_cert.specs.Aim.{Aim, Breaching, Clashing, accepts, holds, is_open_aim, shows}

@@ -3,4 +3,3 @@ mod NoLf
 mod Numbers
 mod Stays
 mod TableLines
-mod WholeLines

@@ -1,11 +1,11 @@
 -- Texts without an LF: parts of one have none.
-use Rattle.std.proofs.Common.{◌≡◌, ◌∙◌, ℕ, Bool, true, false, cond, List, [], ◌∷◌, ◌++◌, Option, Some, None, take, drop, reverse, codes, refl, sym, ap}
+use Rattle.std.proofs.Common.{◌≡◌, ◌∙◌, ℕ, Bool, true, false, cond, List, [], ◌∷◌, ◌++◌, Option, Some, None, take, drop, reverse, codes, length, ◌-◌, nat_eq, refl, sym, ap}
 use Rattle.std.specs.Prelude.{⊤}
-use Rattle.std.specs.List.{list_any}
+use Rattle.std.specs.List.{ends_with, list_any}
 use Rattle.std.specs.Option.{option_map}
 use Rattle.std.proofs.lemmas.Bool.{or_parts, or_from}
 use Rattle.std.proofs.lemmas.List.{reverse-append, take-append-drop}
-use Rattle.hub_text.specs.Lines.{is_lf}
+use Rattle.hub_text.specs.Lines.{is_lf, without_last_cr}
 use Rattle.hub_text.specs.laws.Test.{any-append}
 use Rattle.hub_hosts.specs.Words.{begins_with, behind_arrow, behind_last_arrow, from_first, is_one_of, skip, skip_end}
 
@@ -75,3 +75,10 @@ map-no_lf f (Some xs) keeps h = keeps xs h
 
 pub if-no_lf : (b : Bool) (o p : Option (List ℕ)) → IfNoLf o → IfNoLf p → IfNoLf (cond b o p)
 if-no_lf b o p h k = either-if b o p h k
+
+pub without_last_cr-no_lf : (l : List ℕ) → has_lf l ≡ false → has_lf (without_last_cr l) ≡ false
+without_last_cr-no_lf l h = by (ends_with nat_eq l (codes "\r"))
+  where
+    by : (b : Bool) → has_lf (cond b (take (length l - 1) l) l) ≡ false
+    by true = take-no_lf (length l - 1) l h
+    by false = h

@@ -11,9 +11,9 @@ use Rattle.hub_hosts.specs.Remotes.{base_for, folder_path, local, local_of, path
 use Rattle.hub_hosts.specs.Table.{Row, blanks, rows_of, slash}
 use Rattle.hub_hosts.specs.Words.{before, begins_with, behind, behind_last_arrow, from_first, skip}
 use Rattle.hub_hosts.specs.declared.remote.Remote.{Remote}
-use Rattle.hub_hosts.proofs.NoLf.{IfNoLf, append-no_lf, behind_last_arrow-no_lf, drop-no_lf, from_first-no_lf, has_lf, if-no_lf, map-no_lf, skip-no_lf, skip_end-no_lf, take-no_lf}
+use Rattle.hub_hosts.proofs.NoLf.{IfNoLf, append-no_lf, behind_last_arrow-no_lf, drop-no_lf, from_first-no_lf, has_lf, if-no_lf, map-no_lf, skip-no_lf, skip_end-no_lf, take-no_lf, without_last_cr-no_lf}
 use Rattle.hub_hosts.proofs.TableLines.{HavePaths, IfBase, IsBase, base_for-base, rows_of-paths}
-use Rattle.hub_hosts.proofs.WholeLines.{AreLines, AreLines-lines_of, lines_of-text_of_lines, without_last_cr-no_lf}
+use Rattle.hub_text.specs.laws.WholeLines.{AreLines, AreLines-lines_of, lines_of-text_of_lines}
 
 -- A path that can stand in a line.
 abbrev IsPart : List ℕ → Type 0

@@ -13,8 +13,8 @@ use Rattle.hub_hosts.specs.Table.{Row, Rows, add_line, add_lines, add_row, and_t
 use Rattle.hub_hosts.specs.Words.{begins_with, from_first, host_in, is_one_of, skip, skip_end}
 use Rattle.hub_hosts.specs.declared.fault.HostsFault.TheVariants.{SecondLine}
 use Rattle.hub_hosts.specs.declared.remote.Remote.{Remote}
-use Rattle.hub_hosts.proofs.NoLf.{from_first-no_lf, has_lf, skip-no_lf, skip_end-no_lf}
-use Rattle.hub_hosts.proofs.WholeLines.{AreLines, AreLines-lines_of, without_last_cr-no_lf}
+use Rattle.hub_hosts.proofs.NoLf.{from_first-no_lf, has_lf, skip-no_lf, skip_end-no_lf, without_last_cr-no_lf}
+use Rattle.hub_text.specs.laws.WholeLines.{AreLines, AreLines-lines_of}
 
 -- A row's path: it has no LF, and it is absolute or empty.
 abbrev pub is_base : List ℕ → Bool

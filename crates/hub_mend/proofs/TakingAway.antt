@@ -1,27 +1,21 @@
 -- A profile that ignores and bars at least as much only takes away.
 use Rattle.std.proofs.Common.{◌≡◌, ℕ, zero, suc, Bool, true, false, not, ◌&&◌, ◌||◌, List, [], ◌∷◌, length, take, refl, sym, ap, ◌∙◌, subst}
-use Rattle.std.specs.Prelude.{IsTrue}
 use Rattle.std.specs.List.{list_any}
-use Rattle.std.proofs.lemmas.Bool.{and_parts, and_from, or_right, or_parts}
+use Rattle.std.proofs.lemmas.Bool.{and_parts, and_from, or_right}
+use Rattle.hub_text.specs.laws.Test.{any-weaker, not-weaker}
 use Rattle.hub_path.specs.Path.{Path, is_over, is_path, prefixes, path_eq}
 use Rattle.hub_path.specs.declared.side.Side.{Side}
 use Rattle.hub_path.specs.declared.side.Side.TheVariants.{Left, Right}
-use Rattle.hub_glob.specs.Specification.{Specification}
 use Rattle.hub_glob.specs.Glob.{matches}
 use Rattle.hub_profile.specs.declared.partial.Partial.{Partial}
 use Rattle.hub_profile.specs.declared.verb.Verb.{Verb}
 use Rattle.hub_profile.specs.declared.verb.Verb.TheVariants.{Create, Update, Delete}
 use Rattle.hub_profile.specs.Parts.{Parts, some_passes, at_side, is_root_at, has_root}
-use Rattle.hub_reach.specs.Reach.{reach, is_ignored, is_open, is_forced_root, is_barred, is_barred_at, is_partly_barred, is_partly_barred_by, may, may_at, covers, write, writes_at}
+use Rattle.hub_reach.specs.Reach.{reach, is_ignored, is_open, is_forced_root, is_barred, is_barred_at, is_partly_barred, is_partly_barred_by, may, may_at, covers, writes_at}
 use Rattle.hub_mend.specs.TakesAway.{HoldsMore, IsAlike, TakesAway}
 
 no : false ≡ true → ⊥
 no i = cc
-
-not-weaker : (a b : Bool) → (a ≡ true → b ≡ true) → not b ≡ true → not a ≡ true
-not-weaker true true w h = h
-not-weaker true false w h = absurd (no (w refl))
-not-weaker false b w h = refl
 
 or-weaker : (a b c d : Bool) → (a ≡ true → c ≡ true) → (b ≡ true → d ≡ true) → (a || b) ≡ true → (c || d) ≡ true
 or-weaker true b c d v w h = ap (λ x. x || d) (v refl)
@@ -41,10 +35,6 @@ module _ {X : Type 0} where
   -- What some of the first items pass, some item passes.
   any-first : (f : X → Bool) (first xs : List X) → take (length first) xs ≡ first → list_any f first ≡ true → list_any f xs ≡ true
   any-first f first xs e h = any-take f (length first) xs (subst (λ ys. list_any f ys ≡ true) (sym e) h)
-
-  any-weaker : (f g : X → Bool) (xs : List X) → ((x : X) → f x ≡ true → g x ≡ true) → list_any f xs ≡ true → list_any g xs ≡ true
-  any-weaker f g [] w h = absurd (no h)
-  any-weaker f g (x ∷ xs) w h = or-weaker (f x) (list_any f xs) (g x) (list_any g xs) (w x) (any-weaker f g xs w) h
 
 module _ (P Q : Parts) (alike : IsAlike P Q)
     (ignore : (q : Path) → list_any (λ s. matches s q) P.ignore ≡ true → list_any (λ s. matches s q) Q.ignore ≡ true)

@@ -1,3 +1,2 @@
-pub mod Loops
 pub mod PathFacts
 pub mod PathTexts

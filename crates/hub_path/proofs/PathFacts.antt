@@ -11,6 +11,7 @@ use Rattle.std.proofs.lemmas.Str.{encodes-append, encode_ascii}
 use Rattle.std.proofs.lemmas.List.{take_more, take_all}
 use Rattle.hub_path.specs.Path.{Name, Path, is_name, is_path, is_place, name_in, path_in, path_of, text_of, parent}
 use Rattle.hub_path.specs.laws.General.{is_place-push}
+use Rattle.hub_path.specs.laws.Text.{text_of-push}
 
 -- What each item passes, each item of the front passes.
 pub list_all-take : {X : Type 0} (p : X → Bool) (n : ℕ) (xs : List X) → list_all p xs ≡ true → list_all p (take n xs) ≡ true
@@ -24,11 +25,6 @@ take-parent (n ∷ []) = refl
 take-parent (n ∷ m ∷ p) =
     let less : suc (suc (length p)) - 1 ≡ suc (suc (length p) - 1) = omega arith in
     rw less (ap (λ q. n ∷ q) (take-parent (m ∷ p)))
-
-pub text_of-push : (ns : Path) (n : Name) → 0 < length ns → text_of (ns ++ n ∷ []) ≡ text_of ns ++ 47 ∷ n
-text_of-push [] n l = absurd (omega arith)
-text_of-push (m ∷ []) n l = refl
-text_of-push (m ∷ k ∷ ns) n l = ap (λ t. m ++ 47 ∷ t) (text_of-push (k ∷ ns) n (omega arith)) ∙ sym (append_assoc m (47 ∷ text_of (k ∷ ns)) (47 ∷ n))
 
 -- The text of the first name, and of each later one.
 pub joined-first : (ns : Path) (i : ℕ) (n : Name) → i < length ns → n ≡ get_or ns i n → i ≤ 0 → encode_utf8_all (text_of (take (i + 1) ns)) ≡ encode_utf8_all (text_of (take i ns)) ++ encode_utf8_all n

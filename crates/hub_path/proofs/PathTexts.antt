@@ -10,7 +10,7 @@ use Rattle.std.proofs.lemmas.Str.{encodes-chars, encodes-append, encode_ascii}
 use Rattle.hub_path.specs.Path.{Name, Path, is_place, path_eq, path_of, text_of}
 use Rattle.hub_path.specs.laws.General.{name_eq-decides, path_cmp-exact, text_of-path_of}
 use Rattle.hub_path.specs.laws.TextOrder.{ranks, text_cmp, bytes-cmp}
-use Rattle.hub_path.proofs.PathFacts.{text_of-push}
+use Rattle.hub_path.specs.laws.Text.{text_of-push}
 
 text_cmp-itself : (us : List ℕ) → text_cmp us us ≡ Equal
 text_cmp-itself us = tied_itself nat_list_cmp_total (ranks us)

@@ -2,6 +2,7 @@ pub mod Ascii
 pub mod Hashes
 pub mod General
 pub mod NameFacts
+pub mod Parts
 pub mod ReadBack
 pub mod ReadNames
 pub mod Text

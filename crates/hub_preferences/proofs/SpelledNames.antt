@@ -1,13 +1,8 @@
 -- The names of a value, one at a time.
-use Rattle.std.proofs.Common.{◌≡◌, ◌==◌, ℕ, suc, zero, ◌+◌, ◌<◌, Bool, true, false, ◌&&◌, not, cond, List, [], ◌∷◌, ◌++◌, length, take, get_or, Some, None, refl, sym, ap, ◌∙◌, arith, append_assoc, append-nil, lit<, codes, encode_utf8_all}
+use Rattle.std.proofs.Common.{◌≡◌, ℕ, suc, zero, ◌+◌, ◌<◌, Bool, true, false, ◌&&◌, not, cond, List, [], ◌∷◌, ◌++◌, length, take, get_or, Some, None, refl, sym, ap, ◌∙◌, arith, append_assoc, append-nil, lit<, codes, encode_utf8_all}
 use Rattle.std.specs.List.{filter}
 use Rattle.std.specs.Char.{encode_utf8}
 use Rattle.std.specs.Str.{chars}
-use Rattle.std.specs.List.{slice_split}
-use Rattle.std.specs.Str.Iter.{split_steps, split_text, split_has_more, split_pattern}
-use Rattle.std.specs.Str.Pattern.{FindsChar}
-use Rattle.std.proofs.lemmas.Iterator.{YieldsList}
-use Rattle.std.proofs.lemmas.Iterator.Splits.{YieldsList-from_str_split}
 use Rattle.std.proofs.lemmas.List.{take_all, flat_map_more}
 use Rattle.std.proofs.lemmas.List.Elements.{filter_more}
 use Rattle.std.proofs.lemmas.List.Folds.{list_all-append}
@@ -102,8 +97,3 @@ has_spelling v bs t first h e f is =
     let fit : can_stand_for (with_slashes (names_of v)) v ≡ true = ap (λ w. can_stand_for w v) (sym (names-chars v bs h e)) ∙ f in
     let there : is_respelled v ≡ true = rw (first, h, fit) refl in
     rw there (ap Some (sym (is ∙ ap (λ x. codes "path = " ++ x) e)))
-
--- The parts of a text in turn.
-pub parts_of_text : {s r : _} (bs : List ℕ) → s ≡ r → split_text {P = ℕ} r ≡ bs → split_has_more {P = ℕ} r ≡ true → split_pattern {P = ℕ} r ≡ 47
-    → YieldsList (split_steps FindsChar (λ a b. b ≡ a)) (λ x. x.now) s (slice_split (λ b. b == 47) bs)
-parts_of_text bs same text more pattern = YieldsList-from_str_split 47 bs (lit< tt) (ap (split_text {P = ℕ}) same ∙ text) (ap (split_has_more {P = ℕ}) same ∙ more) (ap (split_pattern {P = ℕ}) same ∙ pattern)

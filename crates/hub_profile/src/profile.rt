@@ -127,96 +127,34 @@ impl Profile {
 
     /// The profile with these patterns and partial bars in place of its own.
     pub fn with_patterns(
-        self,
+        mut self,
         ignore: Items<PathSpec>,
         ignorenot: Items<PathSpec>,
         partial: Items<Partial>,
     ) -> Profile
         ensures { result ≡ record self { ignore = ignore; ignorenot = ignorenot; partial = partial } }
     {
-        let Profile {
-            name,
-            roots,
-            paths,
-            ignore: _old_ignore,
-            ignorenot: _old_ignorenot,
-            protected,
-        } = self;
-        let Protected {
-            force,
-            prefer,
-            bars,
-            partial: _old_partial,
-        } = protected;
-        Profile {
-            name,
-            roots,
-            paths,
-            ignore,
-            ignorenot,
-            protected: Protected {
-                force,
-                prefer,
-                bars,
-                partial,
-            },
-        }
+        self.ignore = ignore;
+        self.ignorenot = ignorenot;
+        self.protected.partial = partial;
+        self
     }
 
     /// The profile with these kept values in place of its own.
-    pub fn with_paths(self, paths: Items<RelPath>) -> Profile
+    pub fn with_paths(mut self, paths: Items<RelPath>) -> Profile
         requires { IsTrue (are_kept paths) }
         ensures { result ≡ record self { paths = paths } }
     {
-        let Profile {
-            name,
-            roots,
-            paths: _old_paths,
-            ignore,
-            ignorenot,
-            protected,
-        } = self;
-        Profile {
-            name,
-            roots,
-            paths,
-            ignore,
-            ignorenot,
-            protected,
-        }
+        self.paths = paths;
+        self
     }
 
     /// The profile with these bars on its whole roots in place of its own.
-    pub fn with_bars(self, bars: [Bars; 2]) -> Profile
+    pub fn with_bars(mut self, bars: [Bars; 2]) -> Profile
         ensures { result ≡ record self { bars = bars } }
     {
-        let Profile {
-            name,
-            roots,
-            paths,
-            ignore,
-            ignorenot,
-            protected,
-        } = self;
-        let Protected {
-            force,
-            prefer,
-            bars: _old_bars,
-            partial,
-        } = protected;
-        Profile {
-            name,
-            roots,
-            paths,
-            ignore,
-            ignorenot,
-            protected: Protected {
-                force,
-                prefer,
-                bars,
-                partial,
-            },
-        }
+        self.protected.bars = bars;
+        self
     }
 }
 

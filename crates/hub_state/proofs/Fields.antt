@@ -1,5 +1,5 @@
 -- Paths, roots and bytes as fields of a line: they read as what was written.
-use Rattle.std.proofs.Common.{◌≡◌, ℕ, zero, suc, ◌*◌, ◌<◌, Bool, true, false, not, ◌||◌, ◌==◌, cond, List, [], ◌∷◌, length, refl, sym, ap, ◌∙◌, arith, subst}
+use Rattle.std.proofs.Common.{◌≡◌, ℕ, zero, suc, ◌*◌, ◌<◌, Bool, true, false, not, ◌==◌, cond, List, [], ◌∷◌, length, refl, sym, ap, ◌∙◌, arith, subst}
 use Rattle.std.specs.Prelude.{codes, None, Ok, nat_lt, bytes_eq, slice_index}
 use Rattle.std.specs.List.{list_all}
 use Rattle.std.specs.Str.{IsUtf8, IsAscii}
@@ -9,6 +9,7 @@ use Rattle.hex.specs.Hex.{IsBytes, encode_with, encode_lower, lower_digits, deco
 use Rattle.hex.proofs.HexLemmas.{decode_of-encode_lower, IsAscii-encode_with, length-encode_with}
 use lib.Utf8.{encode}
 use Rattle.hub_text.specs.laws.List.{some-item}
+use Rattle.hub_text.specs.laws.Test.{second_of_four}
 use Rattle.hub_path.specs.Path.{Name, Path, is_place, is_path, is_forbidden, text_of}
 use Rattle.hub_path.specs.Reading.{names_fault, path_reading, root_reading}
 use Rattle.hub_path.specs.laws.NameFacts.{name_parts}
@@ -21,11 +22,6 @@ use Rattle.hub_state.specs.Reading.{path_field, root_field, bytes_field, digest_
 use Rattle.hub_state.specs.declared.fault.Fault.TheVariants.{BadPath, BadHex}
 use Rattle.hub_state.proofs.Lines.{in_line, in_field, encodes-in_line, digits-in_line, digits-in_field}
 use Rattle.hub_path.specs.laws.Text.{joined-pass, scalars-text}
-
-second_of_four : (a b c d : Bool) → not (a || b || c || d) ≡ true → not b ≡ true
-second_of_four true b c d h = cc
-second_of_four false true c d h = cc
-second_of_four false false c d h = refl
 
 allowed-pass : (f : ℕ → Bool) → ((c : ℕ) → not (is_forbidden c) ≡ true → f c ≡ true) → (n : Name) → list_all (λ c. not (is_forbidden c)) n ≡ true → list_all f n ≡ true
 allowed-pass f one [] h = refl

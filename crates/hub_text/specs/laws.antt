@@ -12,3 +12,4 @@ pub mod TextCuts
 pub mod TextOrder
 pub mod TextParts
 pub mod Texts
+pub mod WholeLines

@@ -1,17 +1,12 @@
 -- The texts of paths that are met on a walk.
-use Rattle.std.proofs.Common.{◌≡◌, ℕ, ◌<◌, List, [], ◌∷◌, ◌++◌, length, refl, sym, ap, ◌∙◌, arith, append_assoc, length-append, lit<, subst}
+use Rattle.std.proofs.Common.{◌≡◌, ℕ, ◌<◌, List, [], ◌∷◌, ◌++◌, length, sym, ap, ◌∙◌, arith, append_assoc, length-append, lit<, subst}
 use Rattle.std.specs.Prelude.{IsTrue, chars}
 use Rattle.std.specs.Str.{encode_utf8_all}
 use Rattle.std.proofs.lemmas.Str.{chars-encodes, encodes-append, encode_ascii}
 use Rattle.hub_path.specs.Path.{Name, Path, is_path, path_of, text_of, parent, last_name}
 use Rattle.hub_path.specs.laws.General.{path_of-text_of}
 use Rattle.hub_path.specs.laws.ReadBack.{path-place}
-use Rattle.hub_path.specs.laws.Text.{path_of-parts, scalars-text}
-
-text_of-push : (ns : Path) (n : Name) → 0 < length ns → text_of (ns ++ n ∷ []) ≡ text_of ns ++ 47 ∷ n
-text_of-push [] n l = absurd (omega arith)
-text_of-push (m ∷ []) n l = refl
-text_of-push (m ∷ k ∷ ns) n l = ap (λ t. m ++ 47 ∷ t) (text_of-push (k ∷ ns) n (omega arith)) ∙ sym (append_assoc m (47 ∷ text_of (k ∷ ns)) (47 ∷ n))
+use Rattle.hub_path.specs.laws.Text.{path_of-parts, scalars-text, text_of-push}
 
 -- The text of a path with one more name.
 pub text-below : (p : Path) (n : Name) → 0 < length p

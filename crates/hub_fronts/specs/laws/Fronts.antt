@@ -1,9 +1,9 @@
 -- Patterns that begin with other characters than kept values match nothing that is reached.
-use Rattle.std.proofs.Common.{◌≡◌, ◌==◌, ⊎_elim, ℕ, Bool, true, false, not, ◌&&◌, ◌||◌, List, [], ◌∷◌, ◌++◌, length, refl, sym, ap, subst, ◌∙◌}
+use Rattle.std.proofs.Common.{◌≡◌, ◌==◌, ⊎_elim, ℕ, Bool, true, false, not, ◌&&◌, ◌||◌, List, [], ◌∷◌, ◌++◌, length, refl, sym, subst, ◌∙◌}
 use Rattle.std.specs.Prelude.{IsTrue}
-use Rattle.std.specs.List.{list_all, list_any}
-use Rattle.std.proofs.lemmas.Bool.{and_from, and_parts, false≢true, or_right}
+use Rattle.std.proofs.lemmas.Bool.{and_from, and_parts, false≢true}
 use Rattle.std.proofs.lemmas.Bool.Decides.{Decides-eqb}
+use Rattle.hub_text.specs.laws.Test.{any-weaker, some-of}
 use Rattle.hub_path.specs.Path.{Path, is_over, name_eq, prefixes, text_of}
 use Rattle.hub_path.specs.laws.General.{is_over-comparable, name_eq-decides}
 use Rattle.hub_path.specs.laws.Text.{prefixes-over}
@@ -96,18 +96,6 @@ glob-near (One (Lit c) ∷ ps) first (e ∷ u) (d ∷ t) h k =
     (glob-near ps (e == 47) u t own.1 near.1)
 
 -- An item that passes two tests, where all pass the one and some the other.
-pub some-of : {X : Type 0} (f h : X → Bool) (xs : List X) → list_all f xs ≡ true
-    → list_any h xs ≡ true → (x : X) × (f x ≡ true) × (h x ≡ true)
-some-of f h [] all any = cc
-some-of {X} f h (x ∷ xs) all any =
-    go (h x) refl (λ rest. some-of f h xs (and_parts (f x) (list_all f xs) all).1 rest)
-  where
-    go : (b : Bool) → h x ≡ b
-        → (list_any h xs ≡ true → (y : X) × (f y ≡ true) × (h y ≡ true))
-        → (y : X) × (f y ≡ true) × (h y ≡ true)
-    go true e rest = (x, (and_parts (f x) (list_all f xs) all).0, e)
-    go false e rest = rest (sym (ap (λ c. c || list_any h xs) e) ∙ any)
-
 kind-met : (k : Kind) (ps : List Part) (p v : Path) → by_kind k ps p ≡ true
     → IsTrue (is_over v p) → (is_name_kind k || begins_like ps (text_of v)) ≡ true
 kind-met kind.Name ps p v h over = refl
@@ -125,18 +113,6 @@ unfolding matches
 met s p v h over =
     kind-met s.kind s.pattern p v
     (and_parts (not (length p == 0)) (by_kind s.kind s.pattern p) h).1 over
-
-any-cons : {X : Type 0} (f g : X → Bool) (x : X) (xs : List X) → (f x ≡ true → g x ≡ true)
-    → (list_any f xs ≡ true → list_any g xs ≡ true) → (b : Bool) → f x ≡ b
-    → list_any f (x ∷ xs) ≡ true → list_any g (x ∷ xs) ≡ true
-any-cons f g x xs here there true e h = ap (λ c. c || list_any g xs) (here e)
-any-cons f g x xs here there false e h =
-    or_right (g x) (list_any g xs) (there (sym (ap (λ c. c || list_any f xs) e) ∙ h))
-
-any-weaker : {X : Type 0} (f g : X → Bool) (xs : List X) → ((x : X) → f x ≡ true → g x ≡ true)
-    → list_any f xs ≡ true → list_any g xs ≡ true
-any-weaker f g [] w h = cc
-any-weaker f g (x ∷ xs) w h = any-cons f g x xs (w x) (any-weaker f g xs w) (f x) refl h
 
 -- Where the literal prefix of a specification differs from each kept value, it matches nothing that
 -- is reached.

@@ -177,7 +177,7 @@ path_of-name (c ∷ n) h =
     let passed = and_parts (is_no_slash c) (list_all is_no_slash n) h in
     not_cut (c == 47) c _ _ passed.0 ∙ ap (onto_first c) (path_of-name n passed.1)
 
-path_of-front : (n : Name) (cs : List ℕ) → list_all is_no_slash n ≡ true
+pub path_of-front : (n : Name) (cs : List ℕ) → list_all is_no_slash n ≡ true
     → path_of (n ++ 47 ∷ cs) ≡ n ∷ path_of cs
 path_of-front [] cs h = refl
 path_of-front (c ∷ n) cs h =

@@ -1,6 +1,6 @@
 -- What one more character makes of the names of a text, which prefixes a path has, and what holds of
 -- all characters of a text.
-use Rattle.std.proofs.Common.{◌≡◌, ◌==◌, cond, ℕ, Bool, true, false, ◌&&◌, List, [], ◌∷◌, ◌++◌, map, refl, sym, ap, ◌∙◌}
+use Rattle.std.proofs.Common.{◌≡◌, ◌==◌, cond, ℕ, Bool, true, false, ◌&&◌, List, [], ◌∷◌, ◌++◌, ◌<◌, length, map, refl, sym, ap, ◌∙◌, arith, append_assoc}
 use Rattle.std.specs.List.{list_all, list_any, onto_first}
 use Rattle.std.specs.Str.{all_scalars}
 use Rattle.std.proofs.lemmas.Bool.{and_from, and_parts}
@@ -144,3 +144,12 @@ pub scalars-text : (p : Path) → is_place p ≡ true → all_scalars (text_of p
 scalars-text p h =
     scalars-all (text_of p)
     ∙ joined-pass scalar refl (λ n k. sym (scalars-all n) ∙ (name_parts n k).scalars) p h
+
+-- The text of a path with one more name.
+pub text_of-push : (ns : Path) (n : Name) → 0 < length ns
+    → text_of (ns ++ n ∷ []) ≡ text_of ns ++ 47 ∷ n
+text_of-push [] n l = absurd (omega arith)
+text_of-push (m ∷ []) n l = refl
+text_of-push (m ∷ k ∷ ns) n l =
+    ap (λ t. m ++ 47 ∷ t) (text_of-push (k ∷ ns) n (omega arith))
+    ∙ sym (append_assoc m (47 ∷ text_of (k ∷ ns)) (47 ∷ n))

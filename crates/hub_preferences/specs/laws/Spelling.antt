@@ -1,7 +1,7 @@
 -- Lines in another spelling.
 use Rattle.std.proofs.Common.{◌≡◌, ℕ, ◌<◌, ◌==◌, Bool, true, false, ◌&&◌, ◌||◌, not, cond, List, [], ◌∷◌, ◌++◌, length, reverse, Some, None, refl, sym, ap, subst, ◌∙◌, arith, append_assoc, append-nil, lit<, codes, bytes_eq}
 use Rattle.std.specs.Prelude.{Ok, encode_utf8_all}
-use Rattle.std.specs.List.{list_any, list_all, filter, onto_first}
+use Rattle.std.specs.List.{list_any, list_all, filter}
 use Rattle.std.specs.Char.{encode_utf8}
 use Rattle.std.specs.Str.{IsUtf8, is_utf8, chars, all_scalars}
 use Rattle.std.proofs.lemmas.Bool.{and_parts, and_from, or_from, false≢true}
@@ -13,9 +13,10 @@ use Rattle.std.proofs.lemmas.Str.{encodes-append, encodes-IsAscii, chars_from_en
 use Rattle.hub_text.specs.Blanks.{is_blank, skip_blanks}
 use Rattle.hub_text.specs.Lines.{is_lf, without_last}
 use Rattle.hub_text.specs.laws.AsciiWords.{IsAscii-from_test}
+use Rattle.hub_text.specs.laws.Test.{second_of_four}
 use Rattle.hub_text.specs.laws.TextParts.{is_apart, encode-apart}
 use Rattle.hub_path.specs.Path.{Name, Path, is_name, is_place, is_path, is_forbidden, is_dots, path_of, text_of}
-use Rattle.hub_path.specs.laws.General.{is_no_slash, name-apart}
+use Rattle.hub_path.specs.laws.General.{is_no_slash, name-apart, path_of-front}
 use Rattle.hub_path.specs.laws.NameFacts.{name_parts}
 use Rattle.hub_path.specs.Reading.{begins_with_slash, without_last_slash, path_reading, is_short_path}
 use Rattle.hub_path.specs.laws.ReadBack.{path_reading-short}
@@ -27,16 +28,6 @@ use Rattle.hub_preferences.specs.Spellings.{is_nothing, names_of, with_slashes, 
 use Rattle.hub_preferences.specs.declared.kind.LineKind.TheVariants as kind
 
 -- What the parts are of names with a slash after each.
-not_cut : (t : Bool) (c : ℕ) (ps qs : List (List ℕ)) → not t ≡ true → cond t ps (onto_first c qs) ≡ onto_first c qs
-not_cut true c ps qs h = cc
-not_cut false c ps qs h = refl
-
-path_of-front : (n : Name) (cs : List ℕ) → list_all is_no_slash n ≡ true → path_of (n ++ 47 ∷ cs) ≡ n ∷ path_of cs
-path_of-front [] cs h = refl
-path_of-front (c ∷ n) cs h =
-    let passed = and_parts (is_no_slash c) (list_all is_no_slash n) h in
-    not_cut (c == 47) c _ _ passed.0 ∙ ap (onto_first c) (path_of-front n cs passed.1)
-
 path_of-with_slashes : (ns : Path) → is_place ns ≡ true → path_of (with_slashes ns) ≡ ns ++ [] ∷ []
 path_of-with_slashes [] h = refl
 path_of-with_slashes (n ∷ ns) h =
@@ -96,11 +87,6 @@ scalars-with (n ∷ ns) h =
 
 abbrev not_lf : ℕ → Bool
 not_lf c = not (c == 10)
-
-second_of_four : (a b c d : Bool) → not (a || b || c || d) ≡ true → not b ≡ true
-second_of_four true b c d h = cc
-second_of_four false true c d h = cc
-second_of_four false false c d h = refl
 
 no_lf-name : (n : Name) → list_all (λ c. not (is_forbidden c)) n ≡ true → list_all not_lf n ≡ true
 no_lf-name [] h = refl

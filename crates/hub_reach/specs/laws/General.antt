@@ -1,6 +1,6 @@
 -- What follows from reach.
-use Rattle.std.proofs.Common.{◌≡◌, ◌∙◌, Bool, true, false, not, ◌&&◌, ◌||◌, List, [], ◌∷◌, refl, ap}
-use Rattle.std.proofs.lemmas.Bool.{and_parts, and_right, or_right}
+use Rattle.std.proofs.Common.{◌≡◌, ◌∙◌, Bool, true, false, not, ◌&&◌, List, [], ◌∷◌, refl, ap}
+use Rattle.std.proofs.lemmas.Bool.{and_parts, and_right}
 use Rattle.std.specs.Prelude.{IsTrue, Option, Some, None}
 use Rattle.std.specs.List.{list_any}
 use Rattle.hub_path.specs.Path.{Path, is_over, is_path, prefixes}
@@ -9,7 +9,7 @@ use Rattle.hub_glob.specs.Specification.{Specification}
 use Rattle.hub_profile.specs.Parts.{Parts, some_passes}
 use Rattle.std.proofs.Math.Bool.{and-true}
 use Rattle.hub_reach.specs.Reach.{reach, is_open, is_ignored}
-use Rattle.hub_text.specs.laws.Test.{any-alike}
+use Rattle.hub_text.specs.laws.Test.{any-alike, any-weaker}
 
 -- What passes, if something does.
 pub passing : {X : Type 0} (f : X → Bool) (o : Option X) → some_passes f o ≡ true
@@ -20,17 +20,6 @@ passing f (Some x) h = (x, refl, h)
 none-and : {X : Type 0} (f : X → Bool) (xs : List X) → list_any (λ x. f x && false) xs ≡ false
 none-and f [] = refl
 none-and f (x ∷ xs) = rw (and_right (f x) false refl) (none-and f xs)
-
-any-cons : {X : Type 0} (f g : X → Bool) (x : X) (xs : List X) → (f x ≡ true → g x ≡ true)
-    → (list_any f xs ≡ true → list_any g xs ≡ true) → (b : Bool) → f x ≡ b
-    → (b || list_any f xs) ≡ true → list_any g (x ∷ xs) ≡ true
-any-cons f g x xs here there true e h = rw (here e) refl
-any-cons f g x xs here there false e h = or_right (g x) (list_any g xs) (there h)
-
-any-weaker : {X : Type 0} (f g : X → Bool) (xs : List X) → ((x : X) → f x ≡ true → g x ≡ true)
-    → list_any f xs ≡ true → list_any g xs ≡ true
-any-weaker f g [] w h = cc
-any-weaker f g (x ∷ xs) w h = any-cons f g x xs (w x) (any-weaker f g xs w) (f x) refl h
 
 nothing-ignored : (P : Parts) (s : Path) (qs : List Path) → P.ignore ≡ []
     → list_any (λ q. is_over s q && is_ignored P q) qs ≡ false

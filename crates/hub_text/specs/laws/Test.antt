@@ -1,6 +1,7 @@
 -- Laws of tests, and of the tests whether some or all items of a list pass.
 use Rattle.std.proofs.Common.{◌≡◌, Bool, true, false, not, ◌&&◌, ◌||◌, T, List, [], ◌∷◌, ◌++◌, map, refl, sym, ap, ◌∙◌}
 use Rattle.std.specs.List.{list_all, list_any}
+use Rattle.std.proofs.lemmas.Bool.{and_parts, false≢true, or_right}
 use Rattle.std.specs.Ordering.{is_eq, is_lt}
 use Rattle.std.specs.declared.cmp.Ordering.{Ordering}
 use Rattle.std.specs.declared.cmp.Ordering.TheVariants.{Less, Equal, Greater}
@@ -75,6 +76,16 @@ pub not-not : (b : Bool) → not (not b) ≡ b
 not-not true = refl
 not-not false = refl
 
+pub not-weaker : (a b : Bool) → (a ≡ true → b ≡ true) → not b ≡ true → not a ≡ true
+not-weaker true true w h = h
+not-weaker true false w h = absurd (false≢true (w refl))
+not-weaker false b w h = refl
+
+pub second_of_four : (a b c d : Bool) → not (a || b || c || d) ≡ true → not b ≡ true
+second_of_four true b c d h = cc
+second_of_four false true c d h = cc
+second_of_four false false c d h = refl
+
 -- Whether some item of a list passes.
 pub any-false : {X : Type 0} (xs : List X) → false ≡ list_any (λ x. false) xs
 any-false [] = refl
@@ -107,6 +118,30 @@ pub any-append : {X : Type 0} (f : X → Bool) (xs ys : List X)
 any-append f [] ys = refl
 any-append f (x ∷ xs) ys =
     sym (or-assoc (f x) (list_any f xs) (list_any f ys)) ∙ ap (λ b. f x || b) (any-append f xs ys)
+
+any-cons : {X : Type 0} (f g : X → Bool) (x : X) (xs : List X) → (f x ≡ true → g x ≡ true)
+    → (list_any f xs ≡ true → list_any g xs ≡ true) → (b : Bool) → f x ≡ b
+    → (b || list_any f xs) ≡ true → list_any g (x ∷ xs) ≡ true
+any-cons f g x xs here there true e h = rw (here e) refl
+any-cons f g x xs here there false e h = or_right (g x) (list_any g xs) (there h)
+
+pub any-weaker : {X : Type 0} (f g : X → Bool) (xs : List X) → ((x : X) → f x ≡ true → g x ≡ true)
+    → list_any f xs ≡ true → list_any g xs ≡ true
+any-weaker f g [] w h = cc
+any-weaker f g (x ∷ xs) w h = any-cons f g x xs (w x) (any-weaker f g xs w) (f x) refl h
+
+-- An item that passes two tests, where all pass the one and some the other.
+pub some-of : {X : Type 0} (f h : X → Bool) (xs : List X) → list_all f xs ≡ true
+    → list_any h xs ≡ true → (x : X) × (f x ≡ true) × (h x ≡ true)
+some-of f h [] all any = cc
+some-of {X} f h (x ∷ xs) all any =
+    go (h x) refl (λ rest. some-of f h xs (and_parts (f x) (list_all f xs) all).1 rest)
+  where
+    go : (b : Bool) → h x ≡ b
+        → (list_any h xs ≡ true → (y : X) × (f y ≡ true) × (h y ≡ true))
+        → (y : X) × (f y ≡ true) × (h y ≡ true)
+    go true e rest = (x, (and_parts (f x) (list_all f xs) all).0, e)
+    go false e rest = rest (sym (ap (λ c. c || list_any h xs) e) ∙ any)
 
 -- No item passes a test exactly when each fails it.
 pub list_all-not : {X : Type 0} (p : X → Bool) (xs : List X)

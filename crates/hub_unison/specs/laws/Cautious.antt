@@ -14,21 +14,16 @@ use Rattle.hub_profile.specs.declared.verb.Verb.TheVariants.{Create, Update, Del
 use Rattle.hub_profile.specs.Parts.{Parts, is_root_at, has_root}
 use Rattle.hub_glob.specs.Glob.{matches, any_matches}
 use Rattle.hub_reach.specs.Reach.{reach, may, may_at, writes_at, is_open, covers}
-use Rattle.hub_text.specs.laws.Test.{list_all-not}
+use Rattle.hub_text.specs.laws.Test.{any-weaker, list_all-not, not-weaker}
 use Rattle.hub_reach.specs.Safe.{IsSafe, Rule, Clash}
 use Rattle.hub_unison.specs.Matching.{Matching, IsMatching, surely, perhaps}
 use Rattle.hub_unison.specs.UnisonReach.{is_starred, lies_in, start, ignores, opens, reach_by, bars_by, may_by, writes_by, UnisonClash, IsCautious, AreCautious, IsSafeInUnison}
-use Rattle.hub_unison.specs.laws.Piece.{any-where, any-weaker}
+use Rattle.hub_unison.specs.laws.Piece.{any-where}
 use Rattle.hub_unison.specs.Cautious.{any_surely, IgnoresLess, SparesMore, BarsLess, has_star, with_patterns, with_tops, covers_value, cover}
 
 -- Tests.
 pub no : false ≡ true → ⊥
 no i = cc
-
-pub not-weaker : (a b : Bool) → (a ≡ true → b ≡ true) → not b ≡ true → not a ≡ true
-not-weaker true true w h = h
-not-weaker true false w h = absurd (no (w refl))
-not-weaker false b w h = refl
 
 left-part : (a b : Bool) → (a || b) ≡ true → not b ≡ true → a ≡ true
 left-part true b h n = refl

@@ -3,7 +3,7 @@ use Rattle.std.proofs.Common.{◌≡◌, ◌==◌, ℕ, Bool, true, false, not, 
 use Rattle.std.specs.Prelude.{if◌then◌else◌}
 use Rattle.std.specs.List.{list_any}
 use Rattle.std.proofs.lemmas.Bool.{and_parts, and_from, or_right}
-use Rattle.hub_text.specs.laws.Test.{any-append, any-or}
+use Rattle.hub_text.specs.laws.Test.{any-append, any-or, any-weaker}
 use Rattle.hub_path.specs.Path.{Path, text_of, last_name, prefixes}
 use Rattle.hub_glob.specs.declared.piece.Part.{Part}
 use Rattle.hub_glob.specs.declared.piece.Part.TheVariants.{Brace}
@@ -14,7 +14,7 @@ use Rattle.hub_glob.specs.declared.path_spec.Kind.TheVariants as kind
 use Rattle.hub_glob.specs.Glob.{pieces, glob, choices, no_more, matches, by_kind}
 use Rattle.hub_glob.specs.laws.Choice.{glob_choices}
 use Rattle.hub_unison.specs.Matching.{sure_pieces, sure_text, all_simple, all_known, of_kind, surely, perhaps, star_for, starred, widened, IsMatching}
-use Rattle.hub_unison.specs.laws.Piece.{any-weaker, sure-within}
+use Rattle.hub_unison.specs.laws.Piece.{sure-within}
 
 pub by_kind-of : (k : Kind) (ps : List Part) (p : Path) → by_kind k ps p ≡ of_kind k (glob ps true) p
 by_kind-of kind.Name ps p = refl

@@ -7,6 +7,7 @@ use Rattle.std.proofs.lemmas.Bool.Decides.{nat_tests}
 use Rattle.hub_glob.specs.declared.piece.Piece.{Piece}
 use Rattle.hub_glob.specs.declared.piece.Piece.TheVariants.{Lit, Any, Run, OneOf}
 use Rattle.hub_glob.specs.Glob.{Texts, begins, is_run, splits, piece, pieces, no_more}
+use Rattle.hub_text.specs.laws.Test.{any-weaker}
 use Rattle.hub_unison.specs.Matching.{sure_pieces}
 
 pub same-number : (a b : ℕ) → (a == b) ≡ true → a ≡ b
@@ -33,14 +34,6 @@ module _ {X : Type 0} where
   all-weaker f g (x ∷ xs) w all =
       let parts = and_parts (f x) (list_all f xs) all in
       and_from (g x) (list_all g xs) (w x parts.0) (all-weaker f g xs w parts.1)
-
-  all-true : (xs : List X) → list_all (λ x. true) xs ≡ true
-  all-true [] = refl
-  all-true (x ∷ xs) = all-true xs
-
-  pub any-weaker : (f g : X → Bool) (xs : List X) → ((x : X) → f x ≡ true → g x ≡ true)
-      → list_any f xs ≡ true → list_any g xs ≡ true
-  any-weaker f g xs w some = any-where (λ x. true) f g xs (all-true xs) (λ x h. w x) some
 
 -- A member of a set passes what all members pass.
 pub member-passes : (f : ℕ → Bool) (cs : List ℕ) (d : ℕ) → list_all f cs ≡ true

@@ -18,11 +18,11 @@ use Rattle.hub_profile.specs.declared.verb.Verb.TheVariants.{Create, Update, Del
 use Rattle.hub_profile.specs.Parts.{Parts, at_side, has_root, is_root_at, some_passes}
 use Rattle.hub_reach.specs.Reach.{covers, is_barred, is_barred_at, is_forced_root, is_open, may, may_at, reach, writes_at}
 use Rattle.hub_reach.specs.Safe as safe
+use Rattle.hub_text.specs.laws.Test.{any-weaker, not-weaker}
 use Rattle.hub_unison.specs.Matching.{Matching, IsMatching}
 use Rattle.hub_unison.specs.UnisonReach.{IsCautious, IsSafeInUnison, bars_by, may_by, reach_by, writes_by}
-use Rattle.hub_unison.specs.laws.Piece.{any-weaker}
 use Rattle.hub_unison.specs.Cautious.{cover}
-use Rattle.hub_unison.specs.laws.Cautious.{safe_in_unison, tops-reach, no, none-over, not-weaker, three-weaker}
+use Rattle.hub_unison.specs.laws.Cautious.{safe_in_unison, tops-reach, no, none-over, three-weaker}
 use Rattle.hub_unison.specs.Rules.{AreReadForUnison, IsReadingOf, KeepsRulesInUnison, for_rules, forbidden, may_item, rule_bars}
 
 -- Bars.

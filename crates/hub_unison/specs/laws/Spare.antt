@@ -4,7 +4,7 @@ use Rattle.std.specs.Prelude.{nat_lt, slice_index, flat_map, if◌then◌else◌
 use Rattle.std.specs.List.{list_any, list_all}
 use Rattle.std.proofs.lemmas.Bool.{and_parts, and_from, or_right}
 use Rattle.std.proofs.Math.Bool.{or-false, and-false}
-use Rattle.hub_text.specs.laws.Test.{any-map, any-or, any-append}
+use Rattle.hub_text.specs.laws.Test.{any-append, any-map, any-or, any-weaker}
 use Rattle.hub_glob.specs.declared.piece.Piece.{Piece}
 use Rattle.hub_glob.specs.declared.piece.Piece.TheVariants.{Lit, Any, Run, OneOf}
 use Rattle.hub_glob.specs.declared.piece.Part.{Part}
@@ -16,7 +16,7 @@ use Rattle.hub_glob.specs.laws.Choice.{glob_choices}
 use Rattle.hub_unison.specs.Matching.{sure_pieces, sure_text, is_known, is_simple, is_simple_member, is_odd, all_simple, all_known, of_kind, surely}
 use Rattle.hub_unison.specs.Spares.{dotted, spares, pattern_spares, is_plain, IsSpare}
 use Rattle.hub_unison.specs.laws.Pattern.{by_kind-of, of_kind-weaker, of_kind-or}
-use Rattle.hub_unison.specs.laws.Piece.{any-where, any-weaker, all-weaker, same-number, run-mono, member-passes}
+use Rattle.hub_unison.specs.laws.Piece.{any-where, all-weaker, same-number, run-mono, member-passes}
 
 no : false ≡ true → ⊥
 no i = cc

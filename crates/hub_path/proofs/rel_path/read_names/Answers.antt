@@ -8,7 +8,7 @@ use Rattle.hub_text.specs.laws.TextParts.{part-chars, length-parts}
 use Rattle.hub_path.specs.Path.{path_of}
 use Rattle.hub_path.specs.declared.rel_path.TheConstants.{PATH_NAMES}
 use Rattle.hub_path.specs.laws.ReadNames.{fault-deep, fault-name, read-more, read-all}
-use Rattle.hub_path.proofs.Loops.{parts_of_text}
+use Rattle.hub_path.specs.laws.Parts.{parts_of_text}
 use Rattle.hub_path.proofs.rel_path.read_names.Goals as goal
 
 pub loop-part-preserved : goal.loop-part-preserved

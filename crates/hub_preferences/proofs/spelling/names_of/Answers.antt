@@ -4,7 +4,8 @@ use Rattle.std.proofs.lemmas.List.{length_push}
 use Rattle.std.proofs.lemmas.Iterator.Consumers.{YieldsList-turn, YieldsList-end}
 use Rattle.hub_text.specs.laws.TextParts.{part-chars, length-parts}
 use Rattle.hub_path.specs.Path.{path_of}
-use Rattle.hub_preferences.proofs.SpelledNames.{parts_of_text, skipped, more, none, whole}
+use Rattle.hub_path.specs.laws.Parts.{parts_of_text}
+use Rattle.hub_preferences.proofs.SpelledNames.{skipped, more, none, whole}
 use Rattle.hub_preferences.proofs.spelling.names_of.Goals as goal
 
 pub loop-part-init : goal.loop-part-init

@@ -5,7 +5,7 @@ use Rattle.std.proofs.lemmas.Iterator.Consumers.{YieldsList-turn, YieldsList-end
 use Rattle.hub_text.specs.laws.TextParts.{part-chars, length-parts}
 use Rattle.hub_path.specs.Path.{path_of}
 use Rattle.hub_path.proofs.PathFacts.{all-names, names-more, no-path, whole-path}
-use Rattle.hub_path.proofs.Loops.{parts_of_text}
+use Rattle.hub_path.specs.laws.Parts.{parts_of_text}
 use Rattle.hub_path.proofs.rel_path.RelPath.from_text.Goals as goal
 
 pub loop-part-preserved : goal.loop-part-preserved

@@ -1,18 +1,20 @@
 -- What is put at a path, where only new contents may be.
-use Rattle.std.proofs.Common.{◌≡◌, ℕ, ◌+◌, ◌<◌, Bool, true, false, ◌&&◌, List, [], ◌∷◌, ◌++◌, append-nil, length, drop, Option, Some, None, Bor, refl, ap, sym, ◌∙◌, arith}
-use Rattle.std.specs.Prelude.{if◌then◌else◌}
+use Rattle.std.proofs.Common.{◌≡◌, ℕ, ◌+◌, ◌<◌, Bool, true, false, ◌&&◌, List, [], ◌∷◌, ◌++◌, append-nil, length, drop, Option, Some, None, Bor, refl, ap, sym, ◌∙◌, subst, arith}
+use Rattle.std.specs.Prelude.{if◌then◌else◌, Result, Ok, Err}
 use Rattle.std.specs.List.{slice_get}
 use Rattle.std.specs.Option.{option_and_then, option_copied, is_some}
 use Rattle.std.specs.FinMap as fin
 use Rattle.std.proofs.lemmas.Bool.{false≢true}
 use Rattle.std.specs.FinMap.Entries.{find}
 use Rattle.hub_path.specs.Path.{Name, Path, name_cmp}
-use Rattle.hub_tree.specs.Tree.{Replica, set_fault, with_contents}
+use Rattle.hub_tree.specs.Tree.{Replica, set_fault, with_contents, IsRefusal}
 use Rattle.hub_tree.specs.Nodes.{replica_of, node_get, contents_of, kids_of, fault_below, is_left, put_fault, put_fault_below, with_put}
 use Rattle.hub_tree.specs.declared.contents.Contents.{Contents}
 use Rattle.hub_tree.specs.declared.contents.Contents.TheVariants as contents
+use Rattle.hub_tree.specs.declared.fault.SetFault.{SetFault}
 use Rattle.hub_tree.specs.declared.fault.SetFault.TheVariants.{RootPath, NoParent, NothingThere}
 use Rattle.hub_tree.specs.declared.node.Node.{Node}
+use Rattle.hub_tree.specs.forms.Puts.{IsPutBelow, PutsOrRefuses}
 use Rattle.hub_tree.proofs.LookUp.{look_up, get_nothing, drop_at, rest_left, below_kids}
 use Rattle.hub_tree.proofs.Setting.{Changes, changed_through, same_through, fault_through, fault_nowhere, fault_below-file, nothing_fault}
 
@@ -55,10 +57,10 @@ never_left true o e = ap is_some e
 never_left false o e = refl
 
 -- through a node
-pub left_through : (new : Bool) (cs : List (Name × Node)) (p : Path) (d : ℕ) (n : Name) (x : Node) → slice_get p d ≡ Some n → d + 1 < length p → find name_cmp n cs ≡ Some x → is_left new (replica_of cs) (drop d p) ≡ is_left new (replica_of (kids_of x)) (drop (d + 1) p)
+left_through : (new : Bool) (cs : List (Name × Node)) (p : Path) (d : ℕ) (n : Name) (x : Node) → slice_get p d ≡ Some n → d + 1 < length p → find name_cmp n cs ≡ Some x → is_left new (replica_of cs) (drop d p) ≡ is_left new (replica_of (kids_of x)) (drop (d + 1) p)
 left_through new cs p d n x e l f = ap (λ o. new && is_some o) (get_below cs p d n x e l f)
 
-pub put_fault_through : (new : Bool) (cs : List (Name × Node)) (p : Path) (d : ℕ) (n : Name) (x : Node) (c : Contents) → slice_get p d ≡ Some n → d + 1 < length p → find name_cmp n cs ≡ Some x
+put_fault_through : (new : Bool) (cs : List (Name × Node)) (p : Path) (d : ℕ) (n : Name) (x : Node) (c : Contents) → slice_get p d ≡ Some n → d + 1 < length p → find name_cmp n cs ≡ Some x
     → put_fault new (replica_of cs) (drop d p) c ≡ put_fault_below new x (drop (d + 1) p) c
 put_fault_through new cs p d n x c e l f =
     ap (λ b. if b then None else set_fault (replica_of cs) (drop d p) c) (left_through new cs p d n x e l f)
@@ -72,11 +74,22 @@ put_by false cs fs p d n x y c e l change f kind below =
     changed_through cs fs n (drop (d + 1) p) x y c (rest_left p (d + 1) l) change f kind below
     ∙ ap (λ q. with_contents (replica_of cs) q c) (sym (drop_at p d n e))
 
-pub with_put_through : (new : Bool) (cs fs : List (Name × Node)) (p : Path) (d : ℕ) (n : Name) (x y : Node) (c : Contents) → slice_get p d ≡ Some n → d + 1 < length p → Changes cs fs n (Some y) → find name_cmp n cs ≡ Some x → contents_of y ≡ contents_of x
+with_put_through : (new : Bool) (cs fs : List (Name × Node)) (p : Path) (d : ℕ) (n : Name) (x y : Node) (c : Contents) → slice_get p d ≡ Some n → d + 1 < length p → Changes cs fs n (Some y) → find name_cmp n cs ≡ Some x → contents_of y ≡ contents_of x
     → replica_of (kids_of y) ≡ with_put new (replica_of (kids_of x)) (drop (d + 1) p) c → replica_of fs ≡ with_put new (replica_of cs) (drop d p) c
 with_put_through new cs fs p d n x y c e l change f kind below =
     put_by (is_left new (replica_of (kids_of x)) (drop (d + 1) p)) cs fs p d n x y c e l change f kind below
     ∙ ap (λ b. if b then replica_of cs else with_contents (replica_of cs) (drop d p) c) (sym (left_through new cs p d n x e l f))
+
+pub put_through : (new : Bool) (cs fs : List (Name × Node)) (p : Path) (d : ℕ) (n : Name) (x y : Node) (c : Contents) (r : Result Bool SetFault) → slice_get p d ≡ Some n → d + 1 < length p → Changes cs fs n (Some y) → find name_cmp n cs ≡ Some x → contents_of y ≡ contents_of x
+    → IsPutBelow new x y (drop (d + 1) p) c r → PutsOrRefuses new (put_fault new (replica_of cs) (drop d p) c) (drop d p) c (replica_of cs) (replica_of fs) r
+put_through new cs fs p d n x y c (Ok b) e l change f kind below =
+    (below.0 ∙ sym (left_through new cs p d n x e l f), put_fault_through new cs p d n x c e l f ∙ below.1, with_put_through new cs fs p d n x y c e l change f kind below.2, tt, tt)
+put_through new cs fs p d n x y c (Err g) e l change f kind below =
+    (tt, tt, tt, subst (λ (o : Option SetFault). IsRefusal o g) (sym (put_fault_through new cs p d n x c e l f)) below.3, same_through cs fs n x y change f kind below.4)
+
+-- what is put into a copy
+pub put_copied : (new : Bool) (m n k : Replica) (p : Path) (c : Contents) (r : Result Bool SetFault) → m ≡ n → PutsOrRefuses new (put_fault new m p c) p c m k r → PutsOrRefuses new (put_fault new n p c) p c n k r
+put_copied new m n k p c r same put = subst (λ (o : Replica). PutsOrRefuses new (put_fault new o p c) p c o k r) same put
 
 -- a name that stands for nothing
 pub put_fault_nowhere : (new : Bool) (cs : List (Name × Node)) (p : Path) (d : ℕ) (n : Name) (c : Contents) → slice_get p d ≡ Some n → d + 1 < length p → find name_cmp n cs ≡ None → put_fault new (replica_of cs) (drop d p) c ≡ Some NoParent

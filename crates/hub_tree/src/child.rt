@@ -1,9 +1,9 @@
-ghost use Rattle.std.specs.Prelude.{◌≡◌, [], ◌∷◌, true, false, None, is_some, IfOk, IfErr, IsTrue, OnOk, OnErr};
+ghost use Rattle.std.specs.Prelude.{◌≡◌, [], ◌∷◌, true, false, None, is_some, IsTrue};
 ghost use Rattle.std.specs.BTreeMap.{get};
 ghost use Rattle.hub_path.specs.Path.{name_cmp};
 ghost use Rattle.hub_tree.specs.Nodes.{replica_of, occupied, contents_or_absent};
 ghost use Rattle.hub_tree.specs.Tree.{set_fault, is_directory};
-ghost use Rattle.hub_tree.specs.forms.Puts.{CanPut, HoldSame, Puts, RefusesPut, SetsChild, is_left_among};
+ghost use Rattle.hub_tree.specs.forms.Puts.{IsPut, SetsChild, is_left_among};
 
 use crate::blob::Blob;
 use crate::contents::Contents;
@@ -51,13 +51,7 @@ pub fn put_child(
     contents: Contents,
     only_new: bool,
 ) -> Result<bool, SetFault>
-    ensures left { IfOk result
-        (λ b. b ≡ is_left_among only_new children.old (name.now ∷ [])) }
-    ensures allowed { OnOk result (CanPut only_new children.old (name.now ∷ []) contents) }
-    ensures ok { OnOk result
-        (Puts only_new children.old children.new (name.now ∷ []) contents) }
-    ensures fault { IfErr result (RefusesPut only_new children.old (name.now ∷ []) contents) }
-    ensures err { OnErr result (HoldSame children.old children.new) }
+    ensures { IsPut only_new children.old children.new (name.now ∷ []) contents result }
 {
     if is_past(children, name) {
         add_child(alloc, children, name, contents)?;
@@ -85,13 +79,7 @@ fn put_among(
     contents: Contents,
     only_new: bool,
 ) -> Result<bool, SetFault>
-    ensures left { IfOk result
-        (λ b. b ≡ is_left_among only_new children.old (name.now ∷ [])) }
-    ensures allowed { OnOk result (CanPut only_new children.old (name.now ∷ []) contents) }
-    ensures ok { OnOk result
-        (Puts only_new children.old children.new (name.now ∷ []) contents) }
-    ensures fault { IfErr result (RefusesPut only_new children.old (name.now ∷ []) contents) }
-    ensures err { OnErr result (HoldSame children.old children.new) }
+    ensures { IsPut only_new children.old children.new (name.now ∷ []) contents result }
 {
     if !only_new {
         set_child(alloc, children, name, contents)?;

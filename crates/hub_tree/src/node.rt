@@ -1,12 +1,12 @@
-ghost use Rattle.std.specs.Prelude.{◌≡◌, ◌<◌, min, ◌++◌, drop, length, None, IfOk, IfErr, OnOk, OnErr};
+ghost use Rattle.std.specs.Prelude.{◌≡◌, ◌<◌, min, ◌++◌, drop, length, IfOk, OnOk};
 ghost use Rattle.std.specs.Arc.{arc_value};
 ghost use Rattle.std.specs.Option.{option_copied};
 ghost use Rattle.std.specs.FinMap as fin;
 ghost use Rattle.std.specs.BTreeMap.{insert_entry, keys, IsOrdered};
 ghost use Rattle.hub_path.specs.Path.{name_cmp};
-ghost use Rattle.hub_tree.specs.Nodes.{replica_of, children_entries, entries_under, size_of, kids_of, contents_of, is_left, put_fault_below};
-ghost use Rattle.hub_tree.specs.Tree.{set_fault, IsRefusal};
-ghost use Rattle.hub_tree.specs.forms.Puts.{CanPut, HoldSame, IsNodeAt, Puts, PutsBelow, RefusesPut, is_left_among, paths_in, paths_of};
+ghost use Rattle.hub_tree.specs.Nodes.{replica_of, children_entries, entries_under, size_of, contents_of};
+ghost use Rattle.hub_tree.specs.Tree.{set_fault};
+ghost use Rattle.hub_tree.specs.forms.Puts.{IsNodeAt, IsPut, IsPutBelow, is_left_among, paths_in, paths_of};
 
 use crate::blob::Blob;
 use crate::child::{fault_of_child, put_child};
@@ -187,15 +187,8 @@ pub fn put_shared(
     only_new: bool,
 ) -> Result<bool, SetFault>
     requires { depth < length path.now }
-    ensures left { IfOk result
-        (λ b. b ≡ is_left_among only_new (arc_value shared.old) (drop depth path.now)) }
-    ensures allowed { OnOk result
-        (CanPut only_new (arc_value shared.old) (drop depth path.now) contents) }
-    ensures ok { OnOk result (Puts only_new (arc_value shared.old) (arc_value shared.new)
-        (drop depth path.now) contents) }
-    ensures fault { IfErr result
-        (RefusesPut only_new (arc_value shared.old) (drop depth path.now) contents) }
-    ensures err { OnErr result (HoldSame (arc_value shared.old) (arc_value shared.new)) }
+    ensures { IsPut only_new (arc_value shared.old) (arc_value shared.new) (drop depth path.now)
+        contents result }
 {
     if let Some(children) = Arc::get_mut(shared) {
         return put_at(alloc, children, path, depth, contents, only_new);
@@ -224,15 +217,7 @@ pub fn put_at(
     only_new: bool,
 ) -> Result<bool, SetFault>
     requires { depth < length path.now }
-    ensures left { IfOk result
-        (λ b. b ≡ is_left_among only_new children.old (drop depth path.now)) }
-    ensures allowed { OnOk result
-        (CanPut only_new children.old (drop depth path.now) contents) }
-    ensures ok { OnOk result
-        (Puts only_new children.old children.new (drop depth path.now) contents) }
-    ensures fault { IfErr result
-        (RefusesPut only_new children.old (drop depth path.now) contents) }
-    ensures err { OnErr result (HoldSame children.old children.new) }
+    ensures { IsPut only_new children.old children.new (drop depth path.now) contents result }
 {
     let len = path.len();
     let name = path.name(depth);
@@ -256,15 +241,7 @@ fn put_below(
     only_new: bool,
 ) -> Result<bool, SetFault>
     requires { depth < length path.now }
-    ensures left { IfOk result
-        (λ b. b ≡ is_left only_new (replica_of (kids_of node.old)) (drop depth path.now)) }
-    ensures allowed { OnOk result
-        (put_fault_below only_new node.old (drop depth path.now) contents ≡ None) }
-    ensures ok { OnOk result
-        (PutsBelow only_new node.old node.new (drop depth path.now) contents) }
-    ensures fault { IfErr result
-        (IsRefusal (put_fault_below only_new node.old (drop depth path.now) contents)) }
-    ensures err { OnErr result (replica_of (kids_of node.new) ≡ replica_of (kids_of node.old)) }
+    ensures put { IsPutBelow only_new node.old node.new (drop depth path.now) contents result }
     ensures kind { contents_of node.new ≡ contents_of node.old }
 {
     match node {

@@ -1,11 +1,11 @@
 -- Contents put among the children of a directory, and what is found there.
-use Rattle.std.specs.Prelude.{◌≡◌, Bool, List, [], ◌∷◌, ◌++◌, map, Option, None, Result, ⊤}
+use Rattle.std.specs.Prelude.{◌≡◌, Bool, List, [], ◌∷◌, ◌++◌, map, Option, None, Result, ⊤, IfOk, IfErr, OnOk, OnErr}
 use Rattle.std.specs.BTreeMap.{BTreeMap}
 use Rattle.std.specs.FinMap as fin
 use Rattle.std.specs.Option.{option_and_then}
 use Rattle.hub_path.specs.Path.{Name, Path}
-use Rattle.hub_tree.specs.Nodes.{SetsOrRefuses, is_left, kids_of, node_get, put_fault, replica_of, with_put}
-use Rattle.hub_tree.specs.Tree.{IsRefusal}
+use Rattle.hub_tree.specs.Nodes.{SetsOrRefuses, is_left, kids_of, node_get, put_fault, put_fault_below, replica_of, with_put}
+use Rattle.hub_tree.specs.Tree.{Replica, IsRefusal}
 use Rattle.hub_tree.specs.declared.contents.Contents.{Contents}
 use Rattle.hub_tree.specs.declared.fault.SetFault.{SetFault}
 use Rattle.hub_tree.specs.declared.node.Node.{Node}
@@ -14,26 +14,28 @@ use Rattle.hub_tree.specs.declared.node.Node.{Node}
 abbrev pub is_left_among : Bool → BTreeMap Name Node → Path → Bool
 is_left_among only_new children p = is_left only_new (replica_of children.entries) p
 
--- These contents can be put at a path below the children.
-abbrev pub CanPut : Bool → BTreeMap Name Node → Path → Contents → Type 0
-CanPut only_new children p c = put_fault only_new (replica_of children.entries) p c ≡ None
+-- Contents are put at a path of a replica, or refused for this fault, and then it is as before.
+abbrev pub PutsOrRefuses : Bool → Option SetFault → Path → Contents → Replica → Replica
+    → Result Bool SetFault → Type 0
+PutsOrRefuses only_new fault p c old new result =
+    IfOk result (λ left. left ≡ is_left only_new old p)
+    × OnOk result (fault ≡ None)
+    × OnOk result (new ≡ with_put only_new old p c)
+    × IfErr result (IsRefusal fault)
+    × OnErr result (new ≡ old)
 
--- The new children hold what the old ones do, after these contents are put at a path.
-abbrev pub Puts : Bool → BTreeMap Name Node → BTreeMap Name Node → Path → Contents → Type 0
-Puts only_new old new p c = replica_of new.entries ≡ with_put only_new (replica_of old.entries) p c
+-- These contents are put at a path below the children, or refused.
+abbrev pub IsPut : Bool → BTreeMap Name Node → BTreeMap Name Node → Path → Contents
+    → Result Bool SetFault → Type 0
+IsPut only_new old new p c result =
+    let m = replica_of old.entries in
+    PutsOrRefuses only_new (put_fault only_new m p c) p c m (replica_of new.entries) result
 
--- It is the fault for which these contents can't be put there.
-abbrev pub RefusesPut : Bool → BTreeMap Name Node → Path → Contents → SetFault → Type 0
-RefusesPut only_new children p c = IsRefusal (put_fault only_new (replica_of children.entries) p c)
-
--- The new children hold what the old ones do.
-abbrev pub HoldSame : BTreeMap Name Node → BTreeMap Name Node → Type 0
-HoldSame old new = replica_of new.entries ≡ replica_of old.entries
-
--- The new node holds what the old one does, after these contents are put at a path below it.
-abbrev pub PutsBelow : Bool → Node → Node → Path → Contents → Type 0
-PutsBelow only_new old new p c =
-    replica_of (kids_of new) ≡ with_put only_new (replica_of (kids_of old)) p c
+-- These contents are put at a path below the node, or refused.
+abbrev pub IsPutBelow : Bool → Node → Node → Path → Contents → Result Bool SetFault → Type 0
+IsPutBelow only_new old new p c result =
+    PutsOrRefuses only_new (put_fault_below only_new old p c) p c
+    (replica_of (kids_of old)) (replica_of (kids_of new)) result
 
 -- These contents are set at the name of a child, or refused.
 abbrev pub SetsChild : Contents → Name → BTreeMap Name Node → BTreeMap Name Node

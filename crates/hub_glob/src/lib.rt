@@ -19,7 +19,7 @@
 //! yes_or_no(alloc, spec.matches(&path_of(alloc, path)?))
 //! ```
 //!
-//! From `test_profiles/src/patterns.rt`.
+//! From `test_checker/src/patterns.rt`.
 //!
 //! # What is proved
 //!

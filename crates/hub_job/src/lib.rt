@@ -17,7 +17,7 @@
 //! end_text(alloc, job, answers.as_str())
 //! ```
 //!
-//! From `test_schedules/src/jobs.rt`.
+//! From `test_jobs/src/jobs.rt`.
 //!
 //! # What is proved
 //!

@@ -23,7 +23,7 @@
 //! Ok(RelPath::read(alloc, text)?)
 //! ```
 //!
-//! From `test_profiles/src/paths.rt`.
+//! From `test_checker/src/paths.rt`.
 //!
 //! # What is proved
 //!

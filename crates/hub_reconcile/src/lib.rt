@@ -24,7 +24,7 @@
 //! })?;
 //! ```
 //!
-//! From `test_states/src/reconciliation.rt`.
+//! From `test_jobs/src/reconciliation.rt`.
 //!
 //! # What is proved
 //!

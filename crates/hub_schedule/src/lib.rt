@@ -8,7 +8,7 @@
 //! let left = simulate_jobs(alloc, set.profiles(), state, schedule.as_slice());
 //! ```
 //!
-//! From `test_schedules/src/schedules.rt`.
+//! From `test_jobs/src/schedules.rt`.
 //!
 //! # What is proved
 //!

@@ -22,7 +22,7 @@
 //! Ok(format!(in alloc; "{:?}", first_word(text))?)
 //! ```
 //!
-//! From `test_profiles/src/texts.rt`.
+//! From `test_checker/src/texts.rt`.
 //!
 //! # What is proved
 //!

@@ -20,7 +20,7 @@
 //! }
 //! ```
 //!
-//! From `test_states/src/trees.rt`.
+//! From `test_jobs/src/trees.rt`.
 //!
 //! # What is proved
 //!

@@ -1,4 +1,4 @@
-//! What the programs `test_schedules` and `test_runner` share: what the lines above a question give, and how answers show what
+//! What the programs `test_jobs` and `test_runner` share: what the lines above a question give, and how answers show what
 //! replicas answer and what jobs leave.
 //!
 //! - [`Case`] is what the lines give: profiles and a state. [`verified_of`] checks their set.

@@ -1,8 +1,10 @@
-//! Answers questions about sets of profiles, goals, certificates and searches. `stdin` has the questions with their answers, which
-//! were worked out by hand from the rules; so the program is a test of `hub_cert`, `hub_search`, `hub_rounds` and `hub_apart`.
+//! Answers questions about texts, paths, patterns, profiles, sets of profiles, goals, certificates and searches. `stdin` has the
+//! questions with their answers, which were worked out by hand from the rules; so the program is a test of `hub_text`, `hub_path`,
+//! `hub_glob`, `hub_profile`, `hub_cert`, `hub_search`, `hub_rounds` and `hub_apart`. No proof depends on them.
 //!
 //! Each line of the input is a question, as `test_kit` says: a word and its fields.
 //!
+//! - `pattern`, `profile` and seven other words ask about one subject (`subjects`).
 //! - `set SET`: what the set has, or why there is none (`sets` says how a set is written).
 //! - `goals SET`: the goals of the set.
 //! - `has GOAL | SET`: whether this is a goal of the set. A goal is written as in docs/CERTIFICATES.md.
@@ -20,17 +22,28 @@
 //! A fault is shown as `faults` says. Tests in a table that is read cost no proof, as tests in code do.
 #![tactic(auto)]
 
+mod answers;
 mod certificates;
+mod devices;
 mod faults;
 mod goals;
+mod lists;
+mod names;
+mod paths;
+mod patterns;
 mod products;
+mod profiles;
+mod roots;
 mod rounds;
+mod rules;
 mod searches;
 mod sets;
+mod subjects;
+mod texts;
 mod verdicts;
 mod words;
 
-use anyhow::{Result, bail};
+use anyhow::Result;
 use std::alloc::Global;
 use test_kit::answer_questions;
 
@@ -54,6 +67,6 @@ fn answer(alloc: Global, word: &str, fields: &str) -> Result<String> {
         "clashes" => rounds::clashes_answer(alloc, fields),
         "rounds" => rounds::rounds_answer(alloc, fields),
         "apart" => rounds::apart_answer(alloc, fields),
-        _ => bail!("no question: {word}"),
+        _ => subjects::answer(alloc, word, fields),
     }
 }

@@ -1,9 +1,6 @@
-//! Asks `hub_text`, `hub_path`, `hub_glob` and `hub_profile` the questions of standard input.
+//! Questions about values of `hub_text`, `hub_path`, `hub_glob` and `hub_profile`.
 //!
-//! The file `stdin` has the questions with their answers, which were worked out by hand from the rules. They are data: no proof
-//! depends on them.
-//!
-//! A question is a line, as `test_kit` says: a subject, a question about it, and one or more fields.
+//! Each has a subject, a question about it, and one or more fields:
 //!
 //! ```text
 //! pattern matches Name *.tmp | x.tmp
@@ -11,29 +8,13 @@
 //!
 //! It is answered by `pattern matches Name *.tmp | x.tmp => yes`. A text in an answer stands in quotes, as Rust prints it
 //! for debugging. A fault is shown by its name. The escapes of `test_kit` may stand in all fields.
-#![tactic(auto)]
-
-mod answers;
-mod devices;
-mod lists;
-mod names;
-mod paths;
-mod patterns;
-mod profiles;
-mod roots;
-mod rules;
-mod texts;
-
+use crate::{devices, lists, names, paths, patterns, profiles, roots, rules, texts};
 use anyhow::{Result, bail};
 use std::alloc::Global;
-use test_kit::{answer_questions, cut, text_of};
+use test_kit::{cut, text_of};
 
-fn main(rt: HostRuntime) -> Result<()> {
-    answer_questions(&rt, answer)
-}
-
-/// Answers a question about a subject. The fields begin with what is asked about it.
-fn answer(alloc: Global, subject: &str, fields: &str) -> Result<String> {
+/// Answers a question about a subject.
+pub(crate) fn answer(alloc: Global, subject: &str, fields: &str) -> Result<String> {
     let (question, fields) = cut(fields);
     match subject {
         "profile" => profiles::answer(alloc, "", question, fields),

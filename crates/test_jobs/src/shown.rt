@@ -1,13 +1,22 @@
-//! How answers show values.
+//! How answers show values. A mark is shown as `d`, `-` or the digest of the file.
 
 use anyhow::Result;
 use hub_job::{Next, Op};
 use hub_path::{RelPath, Side};
 use hub_reconcile::{Fate, Item};
-use hub_tree::Archive;
+use hub_tree::{Archive, Mark};
 use std::alloc::Global;
 use test_cases::kind_of;
 use test_kit::list_of;
+
+/// How a mark is shown.
+pub(crate) fn mark_text(alloc: Global, mark: Mark) -> Result<String> {
+    match mark {
+        Mark::File(digest) => Ok(hex::encode(alloc, digest.as_slice())?),
+        Mark::Directory => Ok(String::from_str(alloc, "d")?),
+        Mark::Absent => Ok(String::from_str(alloc, "-")?),
+    }
+}
 
 /// What a job does next.
 pub(crate) fn next_text(alloc: Global, next: &Next) -> Result<String> {
@@ -60,6 +69,7 @@ pub(crate) fn archive_text(alloc: Global, archive: &Option<Archive>) -> Result<S
     }
 }
 
-fn paths_text(alloc: Global, paths: &[RelPath]) -> Result<String> {
+/// How paths are shown.
+pub(crate) fn paths_text(alloc: Global, paths: &[RelPath]) -> Result<String> {
     list_of(alloc, paths, |path| path_text(alloc, path))
 }

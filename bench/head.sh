@@ -1,8 +1,8 @@
 # shellcheck shell=bash
 # The head of the scripts of this folder and of tests/fail.sh: they read this file with `source`, which leaves it their own arguments.
 #
-# It sets `script` and `top`, and `program` and `repetitions` by the arguments: the program of the crate `crate`, which is `hubsync`
-# if nothing else is said, and 5. It makes `folder`, which is gone at the end.
+# It sets `script` and `top`, and `program` and `repetitions` by the arguments: the built `hubsync` and 5 if nothing else is said. It
+# makes `folder`, which is gone at the end.
 script=$(basename "$(dirname "$(readlink -f "$0")")")/$(basename "$0")
 top=$(dirname "$(dirname "$(readlink -f "${BASH_SOURCE[0]}")")")
 
@@ -22,7 +22,7 @@ need() {
     done
 }
 
-program=${1:-$(built "${crate:-hubsync}")}
+program=${1:-$(built hubsync)}
 # shellcheck disable=SC2034 # the scripts read it
 repetitions=${2:-5}
 need "$program"

@@ -10,17 +10,16 @@
 # - `same10`, `new10`: the same with 10,000 entries (aim: with 99,000 an entry takes at most 1.15 times as long);
 # - `star`, `starnew`: the entries of `same` and of `new` in a star of 32 spokes, each with a profile (aim: at most 1.3 times
 #   the time of `same` and of `new`);
-# - `files64`: one profile: the hub has 64 files of 1 MiB, and the spoke has none (aim: at most twice the time that
-#   `bench state` takes to read the one state and to write the other, if it is built).
+# - `files64`: one profile: the hub has 64 files of 1 MiB, and the spoke has none.
 #
 # A line gives the size of the bundle, the least time of `cat` on the bundle and on the answer, the least time of the
 # program from start to end of the process, in milliseconds, and its peak memory, also in sizes of the larger text of the two,
-# if GNU time is installed (aim: under 6). Then a line for each aim says what was measured. The status is 1 if an answer is
+# if GNU time is installed (aim: under 6). Then a line for each aim says what was measured. The stars are run by 4 workers and by
+# one, too (aim: no more time). The status is 1 if an answer is
 # wrong, whatever the times are.
 set -euo pipefail
 # shellcheck source=bench/timing.sh
 source "$(dirname "$(readlink -f "${BASH_SOURCE[0]}")")/timing.sh"
-bench=$(built bench)
 
 bytes=$(printf '%040d' 0)
 digest=$(head -c 20 /dev/zero | sha256sum | cut -d ' ' -f 1)
@@ -108,7 +107,7 @@ prepare() {
     { "$lines"; "$closing" "$count" | in_version_2; } >"$folder/$name.answer"
 }
 
-# The same of 64 files of 1 MiB, of bytes that are different each time. Its two states are left for `bench state`.
+# The same of 64 files of 1 MiB, of bytes that are different each time.
 prepare_files() {
     local file
     for file in $(seq -w 1 64); do
@@ -129,11 +128,12 @@ prepare_files() {
     { one_same; seq -f 'to /srv/spoke file%02.0f' 64; cat "$folder/closing"; } >"$folder/files64.answer"
 }
 
-# The milliseconds of one run on the bundle of that name. Ends the script if the answer is another one.
+# The milliseconds of one run on the bundle of that name, by words on the command line if there are more. Ends the script if the
+# answer is another one.
 time_run() {
     local before after status=0
     before=$EPOCHREALTIME
-    "$program" <"$folder/$1.bundle" >"$folder/answer" || status=$?
+    "$program" "${@:2}" <"$folder/$1.bundle" >"$folder/answer" 2>"$folder/errors" || status=$?
     after=$EPOCHREALTIME
     if [ "$status" != 0 ] || ! cmp -s "$folder/answer" "$folder/$1.answer"; then
         echo "$script: $1: status $status, and $(wc -c <"$folder/answer") bytes '$(head -c 100 "$folder/answer")': wanted 0 and" \
@@ -179,11 +179,6 @@ compare() {
     }'
 }
 
-# The milliseconds that `bench state` takes to read the state of that name (`read`) or to write it (`written`).
-time_state() {
-    "$bench" state <"$folder/$1" 2>&1 >"$folder/copy" | sed -n "s/^$2: \([0-9]*\) ms\$/\1/p"
-}
-
 prepare same one_profile one_agreed one_same one_agreed 33000
 prepare same10 one_profile one_agreed one_same one_agreed 3333
 prepare new one_profile one_fresh one_went one_agreed 99000
@@ -203,9 +198,7 @@ compare 'same, an entry of 99,000 to one of 10,000' "${times[same]}" 99000 "${ti
 compare 'new, an entry of 99,000 to one of 10,000' "${times[new]}" 99000 "${times[new10]}" 9999 1.15
 compare 'star to same' "${times[star]}" 1 "${times[same]}" 1 1.3
 compare 'starnew to new' "${times[starnew]}" 1 "${times[new]}" 1 1.3
-if [ -x "$bench" ]; then
-    compare 'files64 to its states alone' "${times[files64]}" 1 \
-        "$(($(least time_state opening read) + $(least time_state closing written)))" 1 2
-else
-    echo "files64 to its states alone: not measured, since there is no program at $bench"
-fi
+for name in star starnew; do
+    compare "$name, 4 workers to one" "$(least time_run "$name" run --workers 4)" 1 \
+        "$(least time_run "$name" run --workers 1)" 1 1
+done

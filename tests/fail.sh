@@ -1,10 +1,9 @@
 #!/usr/bin/env bash
-# Runs `bench state` on a small state text with each of its requests for memory refused in turn, then with each of its reads and
-# each of its writes failing. The answer should be `OutOfMemory`, `ReadFailed` or `WriteFailed`, and what was written before is a
-# prefix of the right text. Then it asks `test_states` two questions with each request for memory refused: where memory for a step
-# of a replica or an archive is refused, the later answers should be as if that step weren't there. Last it runs `hubsync` on a
-# bundle of two profiles with that state: there nothing stands before the line of the fault, and a failed write leaves a prefix. It
-# refuses each request for memory in a second, small bundle, too: there each of the two jobs brings a file to the other side.
+# Asks `test_jobs` two questions with each request for memory refused: where memory for a step of a replica or an archive is
+# refused, the later answers should be as if that step weren't there. Then it runs `hubsync` on a bundle of two profiles with each
+# request for memory refused in turn, each read and each write failing: nothing stands before the line of the fault, and a failed
+# write leaves a prefix of the right text. It refuses each request for memory in a second, small bundle, too: there each of the two
+# jobs brings a file to the other side.
 #
 # tests/refuse.py does this for the other commands, for one and three jobs, and for calls that the test programs make.
 #
@@ -17,16 +16,15 @@
 #
 #     tests/fail.sh
 #
-# All must have been built, by `rt run` in crates/bench, crates/test_states and crates/hubsync. A C compiler is needed, since
+# All must have been built, by `rt run` in crates/test_jobs and crates/hubsync. A C compiler is needed, since
 # a few lines of C take the place of the C library's `malloc`, `calloc`, `realloc`, `read`, `write` and `pthread_create`. As many
 # runs go on at a time as there are processors, and a run that takes a minute is ended. For each kind of call a line gives the
 # number of runs, how many ended with the fault, how many with a refused thread, a stopped job or a refused step, how many with
 # the right text, and in how many the worker didn't make the call. The status is 1 if an answer is wrong.
 set -euo pipefail
-crate=bench
 # shellcheck source=bench/head.sh
 source "$(dirname "$(readlink -f "${BASH_SOURCE[0]}")")/../bench/head.sh"
-questions=$(built test_states)
+questions=$(built test_jobs)
 hubsync=$(built hubsync)
 need "$questions" "$hubsync"
 lanes=$(nproc)
@@ -169,21 +167,6 @@ run() {
 # Each of the functions that follow sets `told` to a word for what a run told: `right` for the right text, `fault`, and so on.
 # It is `wrong` if the answer may not come.
 
-# `bench state` tells the fault on standard error, and writes a prefix of the right text.
-judge_bench() {
-    told=wrong
-    if [ "$status" = 0 ] && [ "$answer" = "$text" ]; then
-        told=right
-    elif [ "$status" = 1 ] && [[ $text == "$answer"* ]] && tells_fault; then
-        told=fault
-    fi
-}
-
-# Whether standard error has the fault. Where memory for the words of the command line is refused, the standard library says so.
-tells_fault() {
-    [[ $errors == *"$fault"* || $kind-$errors == FAIL_ALLOC-*'out of memory'* ]]
-}
-
 # `hubsync` writes the line of the fault and nothing else, or a prefix of the right text if a write failed. A thread is refused by
 # the requests of its start and by no others. A job is stopped by a request of a worker.
 judge_hubsync() {
@@ -216,7 +199,7 @@ is_of_start() {
     [[ $starts == *$'\n'$1$'\n'* ]]
 }
 
-# `test_states` answers one line. The answer is one of those given, the first with ample memory, or it ends with the fault and no
+# `test_jobs` answers one line. The answer is one of those given, the first with ample memory, or it ends with the fault and no
 # answer.
 judge_question() {
     told=wrong
@@ -233,7 +216,7 @@ judge_question() {
 # Runs a program on an input with each call of a kind failing, until there is no such call, or up to the number `bound` if there is
 # one. Then the file `told` has the word of each run, and `runs` is their number.
 fail_each() {
-    local judge=$1 program=$2 input=$3 kind=$4 fault=$5 number lane begun=() each
+    local judge=$1 program=$2 input=$3 kind=$4 number lane begun=() each
     for ((number = 1; number <= lanes; number++)); do
         lane=$folder/lane$number
         mkdir -p "$lane"
@@ -284,7 +267,7 @@ say_each() {
         "$(count stopped) with a stopped job, $(count right) with the right text, $(count missed) without the call"
 }
 
-# Asks `test_states` a question with each request for memory refused. Its answers are given.
+# Asks `test_jobs` a question with each request for memory refused. Its answers are given.
 say_each_in_question() {
     local question=$1 first answers
     shift
@@ -292,7 +275,7 @@ say_each_in_question() {
     answers=$(printf '%s\n' "${@/#/$question => }")$'\n'
     first="$question => $1"$'\n'
     fail_each judge_question "$questions" question FAIL_ALLOC 'the fault'
-    echo "test_states ${question%% *}: $runs runs, $(count fault) with the fault, $(count step) with a refused step," \
+    echo "test_jobs ${question%% *}: $runs runs, $(count fault) with the fault, $(count step) with a refused step," \
         "$(count right) with the right answer"
 }
 
@@ -346,13 +329,7 @@ stopped_a=$(printf 'safe\njob a stopped\njob b finished\nto /srv/spoke01 b\n' &&
 stopped_b=$(printf 'safe\njob a finished\nskip Conflict a\njob b stopped\n' && cat "$folder/text")$'\n'
 stopped_a_late=$stopped_a
 stopped_b_late=$(printf 'safe\njob a finished\nskip Conflict a\njob b stopped\n' && cat "$folder/brought")$'\n'
-take text "$folder/text"
 
-# `bench` is given a word, and the others none.
-words=(state)
-say_each judge_bench "$program" text FAIL_ALLOC OutOfMemory
-say_each judge_bench "$program" text FAIL_READ ReadFailed
-say_each judge_bench "$program" text FAIL_WRITE WriteFailed
 words=()
 # The second answer is that where memory for the first step was refused, and so on.
 a=$(printf a | sha256sum | cut -d ' ' -f 1)
@@ -364,7 +341,7 @@ say_each_in_question 'tree set a d; set a/b f:abc; set a/c f:a; mark a/c; count;
     "ok; OutOfMemory; ok; $a; 2; ok; ok; 2; ok; 2; -" \
     "ok; ok; OutOfMemory; -; 2; ok; ok; 2; ok; 2; $abc" \
     "ok; ok; ok; $a; 3; $no_memory; ok; 0; ok; 3; $abc"
-say_each_in_question 'archive set a/b d; mark a/b' 'ok; d' "$no_memory; -"
+say_each_in_question 'marks set a/b d; mark a/b' 'ok; d' "$no_memory; -"
 
 say_each_in_run bundle 1
 say_each_in_run bundle 2

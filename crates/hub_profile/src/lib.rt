@@ -5,11 +5,11 @@
 //! [`read_rules`] reads [`Rules`] likewise.
 //!
 //! ```rust
-//! let name = Name::read(alloc, name)?;
-//! Ok(read_profile(alloc, name, text.as_bytes())?)
+//! let name = Name::read(alloc, given.name.as_str())?;
+//! Ok(read_profile(alloc, name, given.text.as_bytes())?)
 //! ```
 //!
-//! From `bench/src/profiles.rt`.
+//! From `test_cases/src/case.rt`.
 //!
 //! Both texts are read line by line, each line over what the lines before it say (specs/LineByLine). A preference is
 //! one row of `keys` and one case of `with_value` (specs/Reading). A name of a rules text is one row of `rule_keys` and

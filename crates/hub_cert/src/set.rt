@@ -1,8 +1,9 @@
 //! Profiles and rules that are checked together, and their goals.
-ghost use Rattle.std.specs.Prelude.{◌≡◌, ◌↔◌, ◌∷◌, [], ◌&&◌, IsTrue, Contains, IfOk, IfErr, OnOk};
-ghost use Rattle.hub_cert.specs.Aim.{shares};
+ghost use Rattle.std.specs.Prelude.{◌≡◌, ◌↔◌, ◌∷◌, [], ◌&&◌, IsTrue, Contains, IfOk, IfErr, OnOk, option_map};
+ghost use Rattle.hub_cert.specs.Aim.{shares, Breaching, Clashing};
 ghost use Rattle.hub_reach.specs.Reach.{has_root, writes};
 ghost use Rattle.hub_cert.specs.declared.goal.Goal.TheVariants.{Clash, Breach};
+ghost use Rattle.hub_cert.specs.declared.goal.Place.{Place};
 ghost use Rattle.hub_cert.specs.Set as of_set;
 ghost use Rattle.hub_cert.specs.Goals as of_goals;
 ghost use Rattle.hub_cert.specs.Refused as refused;
@@ -230,16 +231,10 @@ fn has_clash(profiles: &[Profile], writer: usize, other: usize, place: Place) ->
     ensures { OfProfiles profiles.now
         (λ S. result ≡ of_goals.is_goal S (Clash writer other place)) }
 {
-    if writer == other {
-        return false;
+    match two_of(profiles, writer, other) {
+        Some((writer, other)) => share_place(writer, other, place),
+        None => false,
     }
-    if writer >= profiles.len() {
-        return false;
-    }
-    if other >= profiles.len() {
-        return false;
-    }
-    share_place(&profiles[writer], &profiles[other], place)
 }
 
 /// Returns whether the profile may do at the rule's root what the rule forbids.
@@ -247,15 +242,37 @@ fn has_breach(profiles: &[Profile], rules: &[Rule], profile: usize, rule: usize)
     ensures { OfMembers profiles.now rules.now
         (λ S. result ≡ of_goals.is_goal S (Breach profile rule)) }
 {
-    if profile >= profiles.len() {
-        return false;
+    match profile_and_rule(profiles, rules, profile, rule) {
+        Some((profile, rule)) => profile.has_root(&rule.root)
+            && may(profile, &rule.root, rule.verb),
+        None => false,
     }
-    if rule >= rules.len() {
-        return false;
+}
+
+/// Borrows two different profiles by their numbers. Returns `None` if the numbers are the same, or if one has no profile.
+fn two_of(profiles: &[Profile], writer: usize, other: usize) -> Option<(&Profile, &Profile)>
+    ensures { OfProfiles profiles.now
+        (λ S. (place : Place) → option_map (λ two. Clashing two.0.now two.1.now place) result
+        ≡ of_goals.aim_of S (Clash writer other place)) }
+{
+    if writer == other {
+        return None;
     }
-    let forbidden = &rules[rule];
-    profiles[profile].has_root(&forbidden.root)
-        && may(&profiles[profile], &forbidden.root, forbidden.verb)
+    profiles.get(writer).zip(profiles.get(other))
+}
+
+/// Borrows a profile and a rule by their numbers. Returns `None` if there is no such profile or no such rule.
+fn profile_and_rule<'a>(
+    profiles: &'a [Profile],
+    rules: &'a [Rule],
+    profile: usize,
+    rule: usize,
+) -> Option<(&'a Profile, &'a Rule)>
+    ensures { OfMembers profiles.now rules.now
+        (λ S. option_map (λ both. Breaching both.0.now both.1.now) result
+        ≡ of_goals.aim_of S (Breach profile rule)) }
+{
+    profiles.get(profile).zip(rules.get(rule))
 }
 
 /// Returns whether both profiles have the place, and the writer writes there if it is a replica.

@@ -8,7 +8,7 @@ ghost use Rattle.hub_cert.specs.declared.goal.Goal.TheVariants.{Breach, Clash};
 
 use crate::goal::{Goal, Place};
 use crate::laws::kept_values_rule_out;
-use crate::set::ProfileSet;
+use crate::set::{ProfileSet, profile_and_rule, two_of};
 use crate::verifier::verified::{Verified, silent_set};
 use hub_fronts::may_meet_one;
 use hub_profile::{Profile, Rule};
@@ -59,16 +59,10 @@ fn is_apart_clash(profiles: &[Profile], writer: usize, other: usize, place: Plac
     ensures { OfProfiles profiles.now
         (λ S. result ≡ values.is_apart_goal S (Clash writer other place)) }
 {
-    if writer == other {
-        return false;
+    match two_of(profiles, writer, other) {
+        Some((writer, other)) => !are_near(writer.paths(), other.paths()),
+        None => false,
     }
-    if writer >= profiles.len() {
-        return false;
-    }
-    if other >= profiles.len() {
-        return false;
-    }
-    !are_near(profiles[writer].paths(), profiles[other].paths())
 }
 
 /// Returns whether kept values alone rule out that breach.
@@ -76,11 +70,8 @@ fn is_apart_breach(profiles: &[Profile], rules: &[Rule], profile: usize, rule: u
     ensures { OfMembers profiles.now rules.now
         (λ S. result ≡ values.is_apart_goal S (Breach profile rule)) }
 {
-    if profile >= profiles.len() {
-        return false;
+    match profile_and_rule(profiles, rules, profile, rule) {
+        Some((profile, rule)) => !may_meet_one(&rule.spec, profile.paths()),
+        None => false,
     }
-    if rule >= rules.len() {
-        return false;
-    }
-    !may_meet_one(&rules[rule].spec, profiles[profile].paths())
 }

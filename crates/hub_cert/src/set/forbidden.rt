@@ -5,7 +5,7 @@ ghost use Rattle.hub_reach.specs.Reach.{has_root};
 ghost use Rattle.hub_cert.specs.Product.{Forbids};
 ghost use Rattle.hub_cert.specs.Set.{OfProfileAndRule};
 
-use crate::set::ProfileSet;
+use crate::set::{ProfileSet, profile_and_rule};
 use hub_path::{Root, Side};
 use hub_profile::{Profile, Rule, Verb};
 
@@ -25,12 +25,8 @@ pub fn forbidden_to(set: &ProfileSet, profile: usize, rule: usize) -> Option<For
     ensures some { OfProfileAndRule set.now profile rule
         (λ P R. IsTrue (has_root P R.root) → IsSome result) }
 {
-    let profiles = set.profiles();
-    let rules = set.rules();
-    if profile >= profiles.len() || rule >= rules.len() {
-        return None;
-    }
-    forbidden_by(&profiles[profile], &rules[rule])
+    let (profile, rule) = profile_and_rule(set.profiles(), set.rules(), profile, rule)?;
+    forbidden_by(profile, rule)
 }
 
 /// Returns what a rule forbids a profile, or `None` if the profile doesn't have the rule's root.

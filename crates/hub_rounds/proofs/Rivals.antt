@@ -1,14 +1,14 @@
 -- Lists to which items are added.
-use Rattle.std.proofs.Common.{◌≡◌, ◌∙◌, ◌⊎◌, ⊎_elim, inl, inr, ◌<◌, ◌≤◌, ◌||◌, ℕ, Bool, true, false, List, [], ◌∷◌, ◌++◌, length, refl, subst, sym, ap, arith}
+use Rattle.std.proofs.Common.{◌≡◌, ◌∙◌, ◌⊎◌, ⊎_elim, inl, inr, ◌<◌, ◌≤◌, ◌||◌, ℕ, ◌+◌, Bool, true, false, List, [], ◌∷◌, ◌++◌, length, refl, subst, sym, ap, arith}
 use Rattle.std.specs.Prelude.{Contains}
 use Rattle.std.specs.List.{list_any}
 use Rattle.std.proofs.lemmas.Bool.{true≢false}
 use Rattle.std.proofs.lemmas.Bool.Decides.{nat_tests}
 use Rattle.std.proofs.lemmas.Option.{none-some, slice_get_within}
-use Rattle.hub_text.specs.laws.List.{at-place, cons-cases, cons-here, cons-there, in-place, snoc-cases, snoc-new, snoc-old}
+use Rattle.hub_text.specs.laws.List.{at-place, cons-cases, cons-here, cons-there, in-place, less-or-same, snoc-cases, snoc-new, snoc-old}
 use Rattle.hub_cert.specs.declared.fault.CheckFault.{CheckFault}
 use Rattle.hub_rounds.specs.Lines.{HasPair}
-use Rattle.hub_rounds.specs.Rounds.{AreSplit, ArePlaced, AreRivals, AreUsed, AreWhole, HasJoined, IsFreeFor, IsInRound, IsPlaced, MayJoin, OpensRounds, StandsFree, is_in_round}
+use Rattle.hub_rounds.specs.Rounds.{AreSplit, ArePlaced, AreRivals, AreUsed, AreWhole, IsFreeFor, IsInRound, IsPlaced, MayJoin, OpensRounds, StandsFree, is_in_round}
 use Rattle.hub_rounds.specs.declared.placing.Placed.{Placed}
 use Rattle.hub_rounds.specs.declared.placing.Placing.{Placing}
 use Rattle.hub_rounds.specs.declared.placing.Placing.TheVariants.{Unplaced, Round}
@@ -29,19 +29,48 @@ one-rival-more es ps ns k are may = record {
       (snoc-cases ns k i m at_i);
 }
 
--- Who is one of these or may not join them: the one that was added, and who it was before that.
-pub added-joins : (es : List CheckFault) (ps : List Placed) (ns : List ℕ) (k : ℕ) → HasJoined es ps (ns ++ k ∷ []) k
+-- A profile is one of these, or it may not join them.
+abbrev pub HasJoined : List CheckFault → List Placed → List ℕ → ℕ → Type 0
+HasJoined es ps ns i = Contains ns i ⊎ (MayJoin es ps ns i → ⊥)
+
+-- That holds of the profile that was added. It still holds of each of which it held before.
+added-joins : (es : List CheckFault) (ps : List Placed) (ns : List ℕ) (k : ℕ) → HasJoined es ps (ns ++ k ∷ []) k
 added-joins es ps ns k = inl (in-place (ns ++ k ∷ []) (length ns) k (snoc-new ns k))
 
-pub joined-still : (es : List CheckFault) (ps : List Placed) (ns : List ℕ) (k i : ℕ) → HasJoined es ps ns i → HasJoined es ps (ns ++ k ∷ []) i
+joined-still : (es : List CheckFault) (ps : List Placed) (ns : List ℕ) (k i : ℕ) → HasJoined es ps ns i → HasJoined es ps (ns ++ k ∷ []) i
 joined-still es ps ns k i h = ⊎_elim
     (λ has. let w = at-place ns i has in inl (in-place (ns ++ k ∷ []) w.0 i (snoc-old ns k i w.0 w.2)))
     (λ no. inr (λ may. no (record { placed = may.placed; clashes = λ m j at. may.clashes m j (snoc-old ns k j m at) })))
     h
 
+-- Rivals, where each profile below a number has been asked. The next one joins them, or it may not.
+pub record AreAsked (es : List CheckFault) (ps : List Placed) (ns : List ℕ) (n : ℕ) : Type 0 where
+  pub rivals : AreRivals es ps ns
+  pub joined : (i : ℕ) → i < n → HasJoined es ps ns i
+
+pub none-asked : (es : List CheckFault) (ps : List Placed) (ns : List ℕ) → AreRivals es ps ns → AreAsked es ps ns 0
+none-asked es ps ns are = record { rivals = are; joined = λ i l. absurd (omega (arith, l)) }
+
+pub next-joins : (es : List CheckFault) (ps : List Placed) (ns : List ℕ) (n : ℕ) → AreAsked es ps ns n → MayJoin es ps ns n → AreAsked es ps (ns ++ n ∷ []) (n + 1)
+next-joins es ps ns n are may = record {
+  rivals = one-rival-more es ps ns n are.rivals may;
+  joined = λ i l. ⊎_elim
+      (λ less. joined-still es ps ns n i (are.joined i less))
+      (λ same. subst (λ (k : ℕ). HasJoined es ps (ns ++ n ∷ []) k) (sym same) (added-joins es ps ns n))
+      (less-or-same i n l);
+}
+
+pub next-may-not : (es : List CheckFault) (ps : List Placed) (ns : List ℕ) (n : ℕ) → AreAsked es ps ns n → (MayJoin es ps ns n → ⊥) → AreAsked es ps ns (n + 1)
+next-may-not es ps ns n are never = record {
+  rivals = are.rivals;
+  joined = λ i l. ⊎_elim (λ less. are.joined i less) (λ same. subst (λ (k : ℕ). HasJoined es ps ns k) (sym same) (inr never)) (less-or-same i n l);
+}
+
 -- Each profile has been asked.
-pub are-whole : (es : List CheckFault) (ps : List Placed) (ns : List ℕ) → ((i : ℕ) → i < length ps → HasJoined es ps ns i) → AreWhole es ps ns
-are-whole es ps ns all = λ i out may. ⊎_elim (λ has. out has) (λ no. no may) (all i (slice_get_within ps i may.placed.0 may.placed.1))
+pub are-whole : (es : List CheckFault) (ps : List Placed) (ns : List ℕ) (n : ℕ) → length ps ≤ n → AreAsked es ps ns n → AreWhole es ps ns
+are-whole es ps ns n past are = λ i out may.
+    let own = slice_get_within ps i may.placed.0 may.placed.1 in
+    ⊎_elim (λ has. out has) (λ no. no may) (are.joined i (omega (arith, own, past)))
 
 -- A test that an item of a list passes, and one that finds an item.
 pub test-finds : {X : Type 0} (p : X → Bool) (xs : List X) → list_any p xs ≡ true → (x : X) × Contains xs x × (p x ≡ true)

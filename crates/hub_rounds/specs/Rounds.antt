@@ -85,15 +85,6 @@ pub record AreRivals (es : List CheckFault) (ps : List Placed) (ns : List ℕ) :
   pub clash : (m n i j : ℕ) → m < n → slice_get ns m ≡ Some i → slice_get ns n ≡ Some j
       → HasPair es i j
 
--- A profile is one of these, or it may not join them.
-abbrev pub HasJoined : List CheckFault → List Placed → List ℕ → ℕ → Type 0
-HasJoined es ps ns i = Contains ns i ⊎ (MayJoin es ps ns i → ⊥)
-
--- Each profile that was one of the old ones, or might not join them, is one of the new ones, or may
--- not join these.
-abbrev pub KeepsJoined : List CheckFault → List Placed → List ℕ → List ℕ → Type 0
-KeepsJoined es ps old new = (i : ℕ) → HasJoined es ps old i → HasJoined es ps new i
-
 -- No other profile may join these.
 abbrev pub AreWhole : List CheckFault → List Placed → List ℕ → Type 0
 AreWhole es ps ns = (i : ℕ) → (Contains ns i → ⊥) → MayJoin es ps ns i → ⊥

@@ -3,7 +3,7 @@ ghost use Rattle.std.specs.Prelude.{◌≡◌, ◌↔◌, true, IfOk, OnOk};
 ghost use Rattle.std.specs.List.{list_any};
 ghost use Rattle.hub_rounds.specs.Lines as said;
 ghost use Rattle.hub_rounds.specs.Lines.{HasPair, names_pair};
-ghost use Rattle.hub_rounds.specs.Rounds.{AreRivals, AreWhole, ClashesWithAll, HasJoined, IsInRound, MayJoin, KeepsJoined};
+ghost use Rattle.hub_rounds.specs.Rounds.{AreRivals, AreWhole, IsInRound, MayJoin};
 
 use crate::colouring::{Turn, turns_by_clashes};
 use crate::named::Named;
@@ -103,27 +103,9 @@ fn join_each(
     ensures whole { OnOk result (AreWhole lines.now placed.now rivals.new.items) }
 {
     for profile in 0..placed.len() {
-        join_surely(rivals, lines, named, placed, profile)?;
-    }
-    Ok(())
-}
-
-/// Adds a profile, if it is in a round and clashes with all that are there. If no line is noted, all of them are looked at.
-fn join_surely(
-    rivals: &mut Vec<usize>,
-    lines: &[CheckFault],
-    named: &Named,
-    placed: &[Placed],
-    profile: usize,
-) -> Result<(), AllocError>
-    requires { AreRivals lines.now placed.now rivals.old.items }
-    ensures rivals { OnOk result (AreRivals lines.now placed.now rivals.new.items) }
-    ensures joined { OnOk result (HasJoined lines.now placed.now rivals.new.items profile) }
-    ensures before { OnOk result
-        (KeepsJoined lines.now placed.now rivals.old.items rivals.new.items) }
-{
-    if may_join_surely(rivals.as_slice(), lines, named, placed, profile) {
-        rivals.push(profile)?;
+        if may_join_surely(rivals.as_slice(), lines, named, placed, profile) {
+            rivals.push(profile)?;
+        }
     }
     Ok(())
 }
@@ -138,22 +120,10 @@ fn may_join_surely(
 ) -> bool
     ensures { result ≡ true ↔ MayJoin lines.now placed.now rivals.now profile }
 {
-    if !is_in_round(placed, profile) {
-        return false;
-    }
-    clash_with_all(rivals, lines, named, profile)
-}
-
-/// Returns whether a profile clashes with all of these.
-fn clash_with_all(rivals: &[usize], lines: &[CheckFault], named: &Named, profile: usize) -> bool
-    ensures { result ≡ true ↔ ClashesWithAll lines.now rivals.now profile }
-{
-    for rival in rivals {
-        if !clash_surely(lines, named, *rival, profile) {
-            return false;
-        }
-    }
-    true
+    is_in_round(placed, profile)
+        && rivals
+            .iter()
+            .all(|rival| clash_surely(lines, named, *rival, profile))
 }
 
 /// Returns whether a line says that both profiles clash. If none is noted, all of them are looked at.
@@ -200,15 +170,10 @@ fn may_join(
 ) -> bool
     ensures { result ≡ true → MayJoin lines.now placed.now rivals.now profile }
 {
-    if !is_in_round(placed, profile) {
-        return false;
-    }
-    for rival in rivals {
-        if !clash(lines, named, *rival, profile) {
-            return false;
-        }
-    }
-    true
+    is_in_round(placed, profile)
+        && rivals
+            .iter()
+            .all(|rival| clash(lines, named, *rival, profile))
 }
 
 /// Returns whether the profile of that number is in a round.

@@ -2,7 +2,7 @@
 ghost use Rattle.std.specs.Prelude.{◌≡◌};
 
 use hub_remarks::FirstBytes;
-use std::alloc::Global;
+use std::alloc::{AllocError, Global};
 use std::cell::RefCell;
 use std::io;
 use std::io::{Read, Write};
@@ -13,6 +13,7 @@ pub struct Prefix {
     bytes: Vec<u8>,
     limit: usize,
     is_whole: bool,
+    is_lost: bool,
     error: Option<io::Error>,
 }
 
@@ -23,16 +24,20 @@ impl Prefix {
             bytes: Vec::new(alloc),
             limit,
             is_whole: true,
+            is_lost: false,
             error: None,
         }
     }
 
-    /// Borrows the bytes.
-    pub fn first_bytes(&self) -> FirstBytes<'_> {
-        FirstBytes {
+    /// Borrows the bytes. An error if memory for some of them was refused.
+    pub fn first_bytes(&self) -> Result<FirstBytes<'_>, AllocError> {
+        if self.is_lost {
+            return Err(AllocError);
+        }
+        Ok(FirstBytes {
             bytes: self.bytes.as_slice(),
             is_whole: self.is_whole,
-        }
+        })
     }
 
     /// The device's last error.
@@ -49,7 +54,7 @@ impl Prefix {
         }
         if self.bytes.extend_from_slice(&bytes[..count]).is_err() {
             self.limit = 0;
-            self.is_whole = false;
+            self.is_lost = true;
         }
     }
 }

@@ -4,7 +4,7 @@ ghost use Rattle.hubsync.specs.Written.{ServesFor};
 
 use crate::captured::{Captured, Prefix};
 use crate::terminal::Terminal;
-use hub_remarks::{Answers, FirstBytes, Questions, Remarks, Reply, remark, what_to_ask};
+use hub_remarks::{Answers, Questions, Remarks, Reply, remark, what_to_ask};
 use hub_report::Told;
 use hub_serve::{NoProgress, Served, serve_and_tell};
 use hub_source::SourceFile;
@@ -113,7 +113,7 @@ fn say_remarks<T: AllocGlobal + Clock + Eprint + Threads + Wait + Sync>(
     if let Some(error) = input.error() {
         let _ = eprintln!(rt; "hubsync: standard input can't be read: {error}");
     }
-    match remarks_on(rt, words, files, input.first_bytes(), told) {
+    match remarks_on(rt, words, files, &input, told) {
         Ok(remarks) => {
             let text = remarks.text.as_str();
             let _ = eprint!(rt; "{text}");
@@ -128,9 +128,10 @@ fn remarks_on<T: AllocGlobal + Clock + Eprint + Threads + Wait + Sync>(
     rt: &T,
     words: &[String],
     files: &[SourceFile<'_>],
-    input: FirstBytes<'_>,
+    input: &Prefix,
     told: &Told,
 ) -> Result<Remarks, AllocError> {
+    let input = input.first_bytes()?;
     let asked = what_to_ask(rt.alloc(), words, files, input, told)?;
     let mend = reply_on_mend(rt, &asked)?;
     let check = reply_on_check(rt, &asked, input.bytes)?;

@@ -1,0 +1,17 @@
+pub mod Traces
+pub mod Serializable
+pub mod OldMarks
+pub mod Commute
+pub mod Exchange
+pub mod Lone
+pub mod InTurn
+pub mod Held
+pub mod Starting
+pub mod InOrder
+pub mod Walked
+pub mod Recorded
+pub mod Given
+pub mod Needed
+pub mod Editing
+pub mod EditsInTurn
+pub mod Example

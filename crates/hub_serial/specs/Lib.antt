@@ -1,0 +1,9 @@
+pub mod Schedule
+pub mod World
+pub mod Clash
+pub mod Serial
+pub mod Starter
+pub mod RunRecord
+pub mod Started
+pub mod Edits
+pub mod examples

@@ -44,6 +44,13 @@ line_among i j e = e
 abbrev pub nested_line : ℕ → ℕ → CheckFault
 nested_line i j = fault.Missing (Clash i j Archive)
 
+-- Lines with those of pairs that may not run at the same time for another reason than their paths.
+abbrev pub pair_line : ℕ × ℕ → CheckFault
+pair_line p = nested_line p.0 p.1
+
+abbrev pub with_pairs : List (ℕ × ℕ) → List CheckFault → List CheckFault
+with_pairs ps es = es ++ map pair_line ps
+
 -- The lines of a set of one or two profiles, with these numbers.
 abbrev pub AreLinesOf : Members → ℕ → ℕ → List CheckFault → Type 0
 AreLinesOf S i j es =

@@ -6,6 +6,8 @@
 //! - [`are_put_apart`] says whether that is all that keeps profiles and rules from being a set.
 //! - [`lines_apart`] returns the lines of [`Apart`] profiles: each profile is searched with the rules, and each two together. Two
 //!   with nested roots aren't searched, and have one line.
+//! - [`Apart::with_pairs`] adds a line for each two that may not run at the same time for another reason, as an archive of Unison
+//!   that they share.
 //!
 //! ```rust
 //! if !are_put_apart(profiles.as_slice(), rules.as_slice()) {
@@ -31,6 +33,7 @@
 //! - `are_put_apart` returns what its definition says.
 //! - `lines_apart` returns exactly the lines of each profile and of each two (`AreLinesApart`), or why there are none: too many
 //!   characters are mentioned, or a profile or rule has too many spots.
+//! - `with_pairs` appends exactly the lines of these pairs.
 #![tactic(auto)]
 
 mod apart;

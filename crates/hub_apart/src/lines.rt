@@ -1,8 +1,9 @@
 //! Lines of one or two profiles, with the numbers that these have among all.
-ghost use Rattle.std.specs.Prelude.{◌≡◌, OnOk};
+ghost use Rattle.std.specs.Prelude.{◌≡◌, ◌++◌, map, OnOk};
 ghost use Rattle.hub_apart.specs.ApartLines as said;
 
 use hub_cert::{CheckFault, Goal, Place};
+use hub_text::Items;
 use std::alloc::AllocError;
 
 /// The numbers of two profiles among all, or twice that of one.
@@ -23,6 +24,29 @@ pub(crate) fn nested_line(numbers: Numbers) -> CheckFault
             place: Place::Archive,
         },
     }
+}
+
+/// Appends the line of each of these pairs of numbers.
+pub(crate) fn push_pairs(
+    lines: &mut Items<CheckFault>,
+    pairs: &[(usize, usize)],
+) -> Result<(), AllocError>
+    ensures { OnOk result (lines.new ≡ said.with_pairs pairs.now lines.old) }
+{
+    for pair in pairs {
+        lines.push(pair_line(*pair))?;
+    }
+    Ok(())
+}
+
+/// The line of two profiles of these numbers, as if their roots were nested.
+fn pair_line(pair: (usize, usize)) -> CheckFault
+    ensures { result ≡ said.pair_line pair }
+{
+    nested_line(Numbers {
+        first: pair.0,
+        second: pair.1,
+    })
 }
 
 /// Appends lines of a set of these profiles.

@@ -8,7 +8,7 @@ ghost use Rattle.hub_cert.specs.declared.fault.CheckFault.{CheckFault as Fault};
 ghost use Rattle.hub_apart.specs.ApartLines as said;
 
 use crate::apart::have_nested;
-use crate::lines::{Numbers, nested_line, push_lines};
+use crate::lines::{Numbers, nested_line, push_lines, push_pairs};
 use hub_automaton::{Alphabet, AutomatonFault};
 use hub_cert::{CheckFault, ProfileSet};
 use hub_profile::{Profile, Rule, Rules};
@@ -27,6 +27,32 @@ pub struct Apart {
     /// For each profile the lines of the set of it and the rules. For each two the lines of the set of both; or one, if roots of
     /// them are nested: that their clash has no certificate. All with the numbers that the profiles have among all.
     pub lines: Items<CheckFault>,
+}
+
+impl Apart {
+    ghost use Rattle.std.specs.Prelude.{◌≡◌, IfOk};
+    ghost use Rattle.hub_apart.specs.ApartLines as said;
+
+    /// Appends a line for each two profiles of these numbers, which may not run at the same time for another reason than their
+    /// paths: as if their roots were nested.
+    pub fn with_pairs(self, pairs: &[(usize, usize)]) -> Result<Apart, AllocError>
+        ensures profiles { IfOk result (λ a. a.profiles ≡ self.profiles) }
+        ensures rules { IfOk result (λ a. a.rules ≡ self.rules) }
+        ensures lines { IfOk result (λ a. a.lines ≡ said.with_pairs pairs.now self.lines) }
+    {
+        let Apart {
+            profiles,
+            rules,
+            lines,
+        } = self;
+        let mut lines = lines;
+        push_pairs(&mut lines, pairs)?;
+        Ok(Apart {
+            profiles,
+            rules,
+            lines,
+        })
+    }
 }
 
 /// Searches each profile with the rules, and each two profiles together if no roots of them are nested. Nothing is copied: the

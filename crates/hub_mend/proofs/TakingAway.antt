@@ -1,5 +1,5 @@
 -- A profile that ignores and bars at least as much only takes away.
-use Rattle.std.proofs.Common.{◌≡◌, ℕ, zero, suc, Bool, true, false, not, ◌&&◌, ◌||◌, List, [], ◌∷◌, length, take, refl, sym, ap, ◌∙◌, subst}
+use Rattle.std.proofs.Common.{◌≡◌, Bool, true, false, not, ◌&&◌, ◌||◌, refl, ap, ◌∙◌, subst}
 use Rattle.std.specs.List.{list_any}
 use Rattle.std.proofs.lemmas.Bool.{and_parts, and_from, or_right}
 use Rattle.hub_text.specs.laws.Test.{any-weaker, not-weaker}
@@ -25,16 +25,6 @@ and-weaker : (a b c d : Bool) → (a ≡ true → c ≡ true) → (b ≡ true �
 and-weaker a b c d v w h =
     let parts = and_parts a b h in
     and_from c d (v parts.0) (w parts.1)
-
-module _ {X : Type 0} where
-  any-take : (f : X → Bool) (n : ℕ) (xs : List X) → list_any f (take n xs) ≡ true → list_any f xs ≡ true
-  any-take f zero xs h = absurd (no h)
-  any-take f (suc n) [] h = absurd (no h)
-  any-take f (suc n) (x ∷ xs) h = or-weaker (f x) (list_any f (take n xs)) (f x) (list_any f xs) (λ e. e) (any-take f n xs) h
-
-  -- What some of the first items pass, some item passes.
-  any-first : (f : X → Bool) (first xs : List X) → take (length first) xs ≡ first → list_any f first ≡ true → list_any f xs ≡ true
-  any-first f first xs e h = any-take f (length first) xs (subst (λ ys. list_any f ys ≡ true) (sym e) h)
 
 module _ (P Q : Parts) (alike : IsAlike P Q)
     (ignore : (q : Path) → list_any (λ s. matches s q) P.ignore ≡ true → list_any (λ s. matches s q) Q.ignore ≡ true)
@@ -111,6 +101,4 @@ module _ (P Q : Parts) (alike : IsAlike P Q)
   }
 
 pub takes_away : (P Q : Parts) → HoldsMore P Q → TakesAway P Q
-takes_away P Q h =
-    taken P Q h.alike (λ q. any-first (λ s. matches s q) P.ignore Q.ignore h.ignore)
-    (λ q e. subst (λ ss. list_any (λ s. matches s q) ss ≡ true) h.ignorenot e) h.bars.held (λ f. any-first f P.partial Q.partial h.partial)
+takes_away P Q h = taken P Q h.alike (λ q. h.ignore (λ s. matches s q)) (λ q. h.ignorenot (λ s. matches s q)) h.bars.held h.partial

@@ -44,4 +44,6 @@ line_count ps = sum_by (λ p. length p.lines.items) ps
 
 -- The line that says that the bundle is safe with so many lines.
 abbrev pub safe_line : ℕ → List ℕ
-safe_line n = codes "safe with " ++ decimal n ++ codes " lines\n"
+safe_line n =
+    if n == 1 then codes "safe with 1 line\n"
+    else codes "safe with " ++ decimal n ++ codes " lines\n"

@@ -1,2 +1,3 @@
 pub mod TakesAway
 pub mod Additions
+pub mod Placed

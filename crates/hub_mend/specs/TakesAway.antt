@@ -1,5 +1,6 @@
 -- When a profile only takes away from another one.
-use Rattle.std.specs.Prelude.{◌≡◌, ⊤, true, List, [], ◌∷◌, length, take, IsTrue}
+use Rattle.std.specs.Prelude.{◌≡◌, ⊤, Bool, true, List, [], ◌∷◌, IsTrue}
+use Rattle.std.specs.List.{list_any}
 use Rattle.hub_path.specs.Path.{Path}
 use Rattle.hub_path.specs.declared.side.Side.{Side}
 use Rattle.hub_profile.specs.Parts.{Parts, at_side, some_passes}
@@ -27,14 +28,18 @@ pub record BarsHold (P Q : Parts) : Type 0 where
   pub held : (side : Side) (verb : Verb) → some_passes (covers verb) (at_side P.bars side) ≡ true
       → some_passes (covers verb) (at_side Q.bars side) ≡ true
 
--- What is tested of two profiles: Q begins with the `ignore` lines and the bars on paths of P, has its
+-- What some item of ys passes, some item of xs passes.
+abbrev pub HoldsAll : {A : Type 0} → List A → List A → Type 0
+HoldsAll {A} xs ys = (test : A → Bool) → list_any test ys ≡ true → list_any test xs ≡ true
+
+-- What is tested of two profiles: Q has the `ignore` lines and the bars on paths of P, no other
 -- `ignorenot` lines, and its bars on the roots forbid what those of P do.
 pub record HoldsMore (P Q : Parts) : Type 0 where
   pub alike : IsAlike P Q
-  pub ignore : take (length P.ignore) Q.ignore ≡ P.ignore
-  pub ignorenot : Q.ignorenot ≡ P.ignorenot
+  pub ignore : HoldsAll Q.ignore P.ignore
+  pub ignorenot : HoldsAll P.ignorenot Q.ignorenot
   pub bars : BarsHold P Q
-  pub partial : take (length P.partial) Q.partial ≡ P.partial
+  pub partial : HoldsAll Q.partial P.partial
 
 -- Each of the new profiles only takes away from the old one in its place.
 abbrev pub AllTakeAway : List Parts → List Parts → Type 0

@@ -4,7 +4,8 @@ use crate::cut::{is_profile, is_rules};
 use crate::piece::Piece;
 use crate::set::{read_in, set_in};
 use crate::subject::Subject;
-use crate::text::push_piece;
+use crate::takes_away::{only_take_away, only_takes_away};
+use crate::text::{mended_text, push_piece};
 use hub_cert::{CheckFault, ProfileSet};
 use hub_profile::{Profile, Rules};
 use hub_search::faults;
@@ -20,6 +21,8 @@ pub(crate) struct Office {
     pub(crate) for_unison: bool,
     /// The profiles as their lines say.
     pub(crate) profiles: Items<Profile>,
+    /// The same profiles as they are read.
+    pub(crate) readings: Items<Profile>,
     pub(crate) rules: Rules,
 }
 
@@ -49,33 +52,71 @@ impl Office {
         }
         match self.read(pieces, case.subject)? {
             Some((profiles, rules)) => {
-                Ok(!case.is_shown(self.alloc, profiles.as_slice(), &rules)?)
+                Ok(!case.is_shown(self.alloc, profiles.as_slice(), rules.as_slice())?)
             }
             None => Ok(false),
         }
     }
 
-    /// Returns whether that can be read with the lines that there are, and its fault is none any more. It searches only where the
-    /// first search was given up.
+    /// Returns whether there is room for the lines that there are, and its fault is none any more. It searches only where the first
+    /// search was given up.
     pub(crate) fn is_answered(&self, pieces: &[Piece], case: &Case) -> Result<bool, AllocError> {
+        let Some(set) = self.set_of(pieces, case.subject)? else {
+            return Ok(false);
+        };
         if matches!(case.fault, CheckFault::TooLarge { .. }) {
-            return self.is_mended(pieces, case);
+            return Ok(!self.is_unsafe(&set, case.subject)?);
         }
-        match self.read(pieces, case.subject)? {
-            Some((profiles, rules)) => Ok(!case.is_held(profiles.as_slice(), &rules)),
+        Ok(!case.is_held(set.profiles(), set.rules()))
+    }
+
+    /// Returns whether there is room for the lines that there are, and it isn't unsafe any more with them.
+    pub(crate) fn is_mended(&self, pieces: &[Piece], case: &Case) -> Result<bool, AllocError> {
+        match self.set_of(pieces, case.subject)? {
+            Some(set) => Ok(!self.is_unsafe(&set, case.subject)?),
             None => Ok(false),
         }
     }
 
-    /// Returns whether that is read, and isn't unsafe any more, with the lines that there are.
-    pub(crate) fn is_mended(&self, pieces: &[Piece], case: &Case) -> Result<bool, AllocError> {
-        let Some((profiles, rules)) = self.read(pieces, case.subject)? else {
-            return Ok(false);
-        };
-        match ProfileSet::new(self.alloc, profiles, rules) {
-            Ok(set) => Ok(!self.is_unsafe(&set, case.subject)?),
-            Err(_) => Ok(false),
+    /// Returns whether there is room for the lines of all profiles: these are a set, and only take away.
+    pub(crate) fn has_room(&self, pieces: &[Piece]) -> Result<bool, AllocError> {
+        let text = mended_text(self.alloc, pieces)?;
+        match read_in(self.alloc, text.as_slice(), self.for_unison)? {
+            Some((profiles, rules)) => {
+                Ok(
+                    only_take_away(self.readings.as_slice(), profiles.as_slice())
+                        && ProfileSet::new(self.alloc, profiles, rules).is_ok(),
+                )
+            }
+            None => Ok(false),
         }
+    }
+
+    /// The set of the profiles that it is about, with their lines, and of the rules. There is none if a line doesn't fit into a limit,
+    /// of a profile or of a set, or keeps another one from being read as it was: then one of these profiles takes more than away.
+    fn set_of(&self, pieces: &[Piece], subject: Subject) -> Result<Option<ProfileSet>, AllocError> {
+        let Some((profiles, rules)) = self.read(pieces, subject)? else {
+            return Ok(None);
+        };
+        if !self.take_away(subject, profiles.as_slice()) {
+            return Ok(None);
+        }
+        Ok(ProfileSet::new(self.alloc, profiles, rules).ok())
+    }
+
+    /// Returns whether the profiles that it is about, which are these now, only take away from what they were.
+    fn take_away(&self, subject: Subject, profiles: &[Profile]) -> bool {
+        let ends = subject.ends();
+        for (new, number) in profiles.iter().zip(ends.iter()) {
+            let is_less = match self.readings.as_slice().get(*number) {
+                Some(old) => only_takes_away(old, new),
+                None => false,
+            };
+            if !is_less {
+                return false;
+            }
+        }
+        true
     }
 
     /// Returns whether that is unsafe in the set of the profiles that it is about.

@@ -3,7 +3,7 @@ use crate::shown::values_show;
 use crate::subject::Subject;
 use hub_cert::{CheckFault, Place};
 use hub_path::RelPath;
-use hub_profile::{Profile, Rules};
+use hub_profile::{Profile, Rule};
 use hub_reach::{may_at, reaches, writes_at};
 use hub_text::Items;
 use std::alloc::{AllocError, Global};
@@ -36,13 +36,13 @@ impl Case {
         &self,
         alloc: Global,
         profiles: &[Profile],
-        rules: &Rules,
+        rules: &[Rule],
     ) -> Result<bool, AllocError> {
         Ok(self.is_held(profiles, rules) || values_show(alloc, profiles)?)
     }
 
     /// Returns whether its fault's path shows that. Where a search was given up nothing says otherwise.
-    pub(crate) fn is_held(&self, profiles: &[Profile], rules: &Rules) -> bool {
+    pub(crate) fn is_held(&self, profiles: &[Profile], rules: &[Rule]) -> bool {
         match (&self.fault, profiles) {
             (CheckFault::Breach { rule, path, .. }, [own]) => breaks(own, rules, *rule, path),
             (CheckFault::Overlap { .. }, [one, other]) => self.overlaps(one, other),
@@ -82,8 +82,8 @@ fn holds(profile: &Profile, place: Place, path: &RelPath) -> bool {
 }
 
 /// Returns whether a profile does at a path, which the rule of that number matches, what the rule forbids.
-fn breaks(profile: &Profile, rules: &Rules, number: usize, path: &RelPath) -> bool {
-    match rules.as_slice().get(number) {
+fn breaks(profile: &Profile, rules: &[Rule], number: usize, path: &RelPath) -> bool {
+    match rules.get(number) {
         Some(rule) => reaches(profile, path) && may_at(profile, &rule.root, path, rule.verb),
         None => false,
     }

@@ -19,7 +19,9 @@ use std::collections::BTreeSet;
 ///
 /// For a clash of two profiles of which one has a folder and the other one a part of it, the first one leaves the part out, and
 /// makes no change at the folders between at the roots of both. For what breaks a rule it is a bar on the rule's pattern, or else
-/// on the root. No line is found that isn't needed, or that mends nothing.
+/// on the root. No line is found that isn't needed, or that mends nothing, or for which there is no room in a limit of a profile
+/// or of a set. As they are read for Unison, some lines of a profile take two of the lines that it may have; so one more may have
+/// no room though the profile has fewer.
 ///
 /// The cost is mostly two searches of all goals. What isn't mended by the first lines makes a search of all goals more, and each
 /// line that isn't needed one of two profiles for each two that clash.
@@ -35,16 +37,30 @@ pub fn pieces_with_lines(
     let found = faults(alloc, &set)?;
     match own_in(alloc, bytes, for_unison)? {
         Some((profiles, rules)) if !found.is_empty() => {
+            let (readings, _) = set.into_members();
             let office = Office {
                 alloc,
                 for_unison,
                 profiles,
+                readings,
                 rules,
             };
-            mended(&office, pieces, found)
+            let pieces = mended(&office, pieces, found)?;
+            with_room(&office, pieces)
         }
         _ => Ok(pieces),
     }
+}
+
+/// These parts, without any lines if there is no room for all of them. Each list of lines was tried by itself before.
+fn with_room(office: &Office, pieces: Vec<Piece>) -> Result<Vec<Piece>, AllocError> {
+    let mut pieces = pieces;
+    if !office.has_room(pieces.as_slice())? {
+        for piece in pieces.iter_mut() {
+            piece.lines.clear();
+        }
+    }
+    Ok(pieces)
 }
 
 /// The parts with lines by which what is unsafe is mended, as far as it can be.
@@ -140,7 +156,8 @@ fn add_if_unsafe(
     Ok(!office.seems_mended(pieces.as_slice(), case)? && add_for(office, pieces, case)?)
 }
 
-/// Adds the first list of lines by which its fault is none any more, and returns whether there is one with a new line.
+/// Adds the first list of lines by which its fault is none any more, and for which there is room. It returns whether there is one
+/// with a new line.
 fn add_for(office: &Office, pieces: &mut Vec<Piece>, case: &Case) -> Result<bool, AllocError> {
     for proposals in proposals_for(office, case.subject)? {
         let counts = line_counts(office.alloc, pieces.as_slice())?;

@@ -17,8 +17,8 @@
 //! `docs`, and another one `docs/lists`: the first gets `ignore = Path docs/lists`, and `noupdatepartial` and `nocreationpartial`
 //! of `docs` at the root that both have.
 //!
-//! The contracts use the words of `specs/TakesAway` (when a profile only takes away from another one) and `specs/Additions` (the
-//! texts with lines).
+//! The contracts use the words of `specs/TakesAway` (when a profile only takes away from another one), `specs/Additions` (the
+//! texts with lines) and `specs/Placed` (lines in the section of their profile).
 //!
 //! Only functions that return a `Result` allocate.
 //!
@@ -26,7 +26,8 @@
 //!
 //! - If `only_take_away` returns true, each new profile has the name, the roots, the kept values, `force` and `prefer` of the old
 //!   one, and reaches no path, writes no path and makes no change at a path that the old one doesn't.
-//! - The texts are what their definitions say, and `is_cut_into` returns true only if the pieces are the whole bundle.
+//! - The texts are what their definitions say, and `is_cut_into` returns true only if the pieces are the whole bundle, each piece with
+//!   lines is the section of the profile of its name, and each line is one line, an `ignore` line or a bar.
 //!
 //! # What is not
 //!
@@ -42,6 +43,7 @@ mod hidden;
 mod line;
 mod needless;
 mod piece;
+mod placed;
 mod proposals;
 mod set;
 mod shown;

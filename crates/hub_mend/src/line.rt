@@ -9,16 +9,17 @@ pub(crate) fn ignore_line(alloc: Global, path: &str) -> Result<String, AllocErro
     format!(in alloc; "ignore = Path {pattern}")
 }
 
-/// The line by which a profile makes no changes of some kind, which the preference names, at a path of a root.
+/// The line by which a profile makes no changes of a kind at a path of a root.
 pub(crate) fn partial_line(
     alloc: Global,
-    preference: &str,
+    verb: Verb,
     path: &str,
     root: &Root,
 ) -> Result<String, AllocError> {
+    let preference = preference_of(verb);
     let pattern = escaped(alloc, path)?;
     let root = root_text(alloc, root)?;
-    format!(in alloc; "{preference} = Path {pattern} -> {root}")
+    format!(in alloc; "{preference}partial = Path {pattern} -> {root}")
 }
 
 /// The line by which a profile doesn't do what a rule forbids, on the paths that the rule matches.

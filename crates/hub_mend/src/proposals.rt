@@ -4,6 +4,7 @@ use crate::line::{bar_line, ignore_line, partial_line, paths_over, rule_line};
 use crate::subject::Subject;
 use hub_path::{RelPath, Root};
 use hub_profile::{Profile, Verb};
+use hub_reach::may;
 use std::alloc::{AllocError, Global};
 
 /// A line for the profile of that number.
@@ -121,7 +122,7 @@ fn push_part(
     Ok(())
 }
 
-/// Appends the lines by which a profile doesn't change the folders over a part at a root.
+/// Appends the lines by which a profile doesn't change the folders over a part at a root, as far as it may change something there.
 fn push_bars(
     office: &Office,
     lines: &mut Vec<Proposal>,
@@ -131,8 +132,11 @@ fn push_bars(
     part: &RelPath,
 ) -> Result<(), AllocError> {
     for path in paths_over(office.alloc, part, least)? {
-        for preference in ["noupdatepartial", "nocreationpartial"] {
-            let line = partial_line(office.alloc, preference, path.as_str(), root)?;
+        for verb in [Verb::Update, Verb::Create] {
+            if !may_change(office, number, root, verb) {
+                continue;
+            }
+            let line = partial_line(office.alloc, verb, path.as_str(), root)?;
             lines.push(Proposal {
                 profile: number,
                 line,
@@ -140,4 +144,12 @@ fn push_bars(
         }
     }
     Ok(())
+}
+
+/// Returns whether the profile of that number may make changes of a kind at a root, as it is read.
+fn may_change(office: &Office, number: usize, root: &Root, verb: Verb) -> bool {
+    match office.readings.as_slice().get(number) {
+        Some(profile) => may(profile, root, verb),
+        None => false,
+    }
 }

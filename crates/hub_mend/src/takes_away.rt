@@ -1,7 +1,5 @@
 //! Whether profiles only take away from others.
-ghost use Rattle.std.specs.Prelude.{◌≡◌, ◌≤◌, true, take, length};
-ghost use Rattle.std.specs.List.{list_any};
-ghost use Rattle.hub_path.specs.Path.{Path};
+ghost use Rattle.std.specs.Prelude.{◌≡◌, ◌∷◌, true};
 ghost use Rattle.hub_path.specs.declared.side.Side.{Side as SideValue};
 ghost use Rattle.hub_profile.specs.Parts.{some_passes, at_side};
 ghost use Rattle.hub_profile.specs.declared.verb.Verb.{Verb};
@@ -12,7 +10,7 @@ use hub_profile::{Bars, Profile};
 use hub_text::{Exact, are_equal, is_equal};
 
 /// Returns whether each of the new profiles only takes away from the old one in its place. A `false` may also come where one
-/// doesn't have all lines of the old one at the start of its own.
+/// lacks an `ignore` line or a bar of the old one, has an `ignorenot` line that this one lacks, or has lines in another order.
 ///
 /// It takes time linear in the profiles.
 pub fn only_take_away(old: &[Profile], new: &[Profile]) -> bool
@@ -34,21 +32,21 @@ pub fn only_take_away(old: &[Profile], new: &[Profile]) -> bool
 }
 
 /// Returns whether the new profile only takes away, as far as its lines show.
-fn only_takes_away(old: &Profile, new: &Profile) -> bool
+pub(crate) fn only_takes_away(old: &Profile, new: &Profile) -> bool
     ensures { result ≡ true → said.TakesAway old.now new.now }
 {
     holds_more(old, new)
 }
 
-/// Returns whether the new profile has all that the old one ignores and bars, and is the same in all else.
+/// Returns whether the new profile ignores and bars all that the old one does by the same lines, and is the same in all else.
 fn holds_more(old: &Profile, new: &Profile) -> bool
     ensures { result ≡ true → said.HoldsMore old.now new.now }
 {
     is_alike(old, new)
-        && begins_with(new.ignore(), old.ignore())
-        && are_equal(new.ignorenot(), old.ignorenot())
+        && holds_all(new.ignore(), old.ignore())
+        && holds_all(old.ignorenot(), new.ignorenot())
         && bars_hold(old, new)
-        && begins_with(new.partial(), old.partial())
+        && holds_all(new.partial(), old.partial())
 }
 
 /// Returns whether the bars of the new profile on both roots forbid all that those of the old one do.
@@ -71,13 +69,26 @@ fn is_alike(old: &Profile, new: &Profile) -> bool
         && is_equal(&new.prefer(), &old.prefer())
 }
 
-/// Returns whether a list begins with these items.
-fn begins_with<T: Exact>(items: &[T], first: &[T]) -> bool
-    ensures { result ≡ true → take (length first.now) items.now ≡ first.now }
+/// Returns whether a list has all items of another one, in the same order.
+fn holds_all<T: Exact>(items: &[T], others: &[T]) -> bool
+    ensures { result ≡ true → said.HoldsAll items.now others.now }
 {
-    match items.get(..first.len()) {
-        Some(start) => are_equal(start, first),
-        None => false,
+    let mut left = items;
+    let mut rest = others;
+    while let Some((item, later)) = left.split_first() {
+        rest = rest_behind(rest, item);
+        left = later;
+    }
+    rest.is_empty()
+}
+
+/// Returns a list without its first item, if that is this one, or else all of it.
+fn rest_behind<'a, T: Exact>(items: &'a [T], item: &T) -> &'a [T]
+    ensures { said.HoldsAll (item.now ∷ result.now) items.now }
+{
+    match items.split_first() {
+        Some((first, rest)) if is_equal(first, item) => rest,
+        _ => items,
     }
 }
 

@@ -2,12 +2,23 @@
 ghost use Rattle.std.specs.Prelude.{◌≡◌, ◌++◌, true, IfOk, OnOk, IfSome, string_bytes};
 ghost use Rattle.std.specs.List.{flat_map};
 ghost use Rattle.hub_mend.specs.Additions as spec;
+ghost use Rattle.hub_mend.specs.Placed.{ArePlaced};
 
 use crate::piece::Piece;
+use crate::placed::are_placed;
 use std::alloc::{AllocError, Global};
 
-/// Returns whether these parts are the whole text, one after another.
+/// Returns whether these parts are the whole text, one after another, each part with lines is the section of the profile of its
+/// name, and each of its lines is one line, an `ignore` line or a bar.
 pub fn is_cut_into(text: &[u8], pieces: &[Piece]) -> bool
+    ensures whole { result ≡ true → text.now ≡ spec.own_text pieces.now }
+    ensures placed { result ≡ true → ArePlaced pieces.now }
+{
+    are_whole(text, pieces) && are_placed(pieces)
+}
+
+/// Returns whether these parts are the whole text, one after another.
+fn are_whole(text: &[u8], pieces: &[Piece]) -> bool
     ensures { result ≡ true → text.now ≡ spec.own_text pieces.now }
 {
     let mut rest = text;
@@ -21,7 +32,7 @@ pub fn is_cut_into(text: &[u8], pieces: &[Piece]) -> bool
 }
 
 /// Returns what follows a part of a text at its start.
-fn rest_after<'a>(text: &'a [u8], front: &[u8]) -> Option<&'a [u8]>
+pub(crate) fn rest_after<'a>(text: &'a [u8], front: &[u8]) -> Option<&'a [u8]>
     ensures { IfSome result (λ rest. text.now ≡ front.now ++ rest.now) }
 {
     text.strip_prefix(front)
@@ -144,5 +155,9 @@ pub fn line_count(pieces: &[Piece]) -> Option<usize>
 pub fn safe_line(alloc: Global, count: usize) -> Result<String, AllocError>
     ensures { IfOk result (λ t. string_bytes t ≡ spec.safe_line count) }
 {
-    format!(in alloc; "safe with {count} lines\n")
+    if count == 1 {
+        String::from_str(alloc, "safe with 1 line\n")
+    } else {
+        format!(in alloc; "safe with {count} lines\n")
+    }
 }

@@ -3,9 +3,11 @@
 //! Unison tests such a bar at the item alone: the topmost path that differs. To hubsync it holds at each path that would change.
 
 use crate::dotted::is_covered;
+use crate::line::is_starred;
+use crate::missing::Missing;
 use crate::query::is_same_root;
 use crate::setting::Setting;
-use crate::sign::{Choices, Pattern, Sign, front_of, names_of, push_signs, signs_of_path};
+use crate::sign::{Choices, Pattern, Sign, front_of, names_of, signs_of_path};
 use hub_glob::Kind;
 use hub_source::trimmed;
 use std::alloc::{AllocError, Global};
@@ -16,7 +18,7 @@ pub(crate) struct PathBar<'a> {
     pub(crate) name: &'a str,
     pub(crate) pattern: &'a str,
     pub(crate) root: &'a str,
-    /// Whether Unison sees its arrow: one blank stands on both sides of it.
+    /// Whether Unison sees its arrow: a blank stands on both sides of it. (Further blanks do no harm, as was observed.)
     has_blanks: bool,
 }
 
@@ -31,14 +33,8 @@ pub(crate) fn read_bar<'a>(name: &'a str, value: &'a str) -> Option<PathBar<'a>>
         name,
         pattern: trimmed(before),
         root: trimmed(after),
-        has_blanks: ends_with_blank(before) && after.starts_with(' '),
+        has_blanks: before.ends_with(' ') && after.starts_with(' '),
     })
-}
-
-/// Returns whether one blank follows a pattern.
-fn ends_with_blank(text: &str) -> bool {
-    text.strip_suffix(' ').is_some_and(|pattern| !pattern.ends_with(' ')
-        && !pattern.ends_with('\t'))
 }
 
 /// What is said of a bar whose arrow Unison doesn't see.
@@ -130,32 +126,40 @@ pub(crate) fn bar_words(
         return Ok(None);
     }
     match missing_bar(alloc, lines, bar, own)? {
-        Some(missing) => Ok(Some(words_on_missing(alloc, bar, missing.as_str())?)),
+        Some(missing) => Ok(Some(words_on_missing(alloc, bar, missing)?)),
         None => Ok(None),
     }
 }
 
-/// The words that name a missing bar, by its pattern. The empty pattern is for a bar that can't be written.
-fn words_on_missing(alloc: Global, bar: PathBar<'_>, missing: &str) -> Result<String, AllocError> {
+/// The words that say which bar is missing.
+fn words_on_missing(
+    alloc: Global,
+    bar: PathBar<'_>,
+    missing: Missing,
+) -> Result<String, AllocError> {
     let (name, root) = (bar.name, bar.root);
-    if missing.is_empty() {
-        return String::from_str(
-            alloc,
-            "Unison tests this bar at the topmost changed path alone: give the profile path lines",
-        );
-    }
-    format!(in alloc;
-        "Unison tests this bar at the topmost changed path alone: add, for Unison too: {name} = {missing} -> {root}"
-    )
+    let remedy = match missing {
+        Missing::Line(pattern) => {
+            format!(in alloc; "add, for Unison too: {name} = {pattern} -> {root}")?
+        }
+        Missing::Unwritten => {
+            String::from_str(
+                alloc,
+                "the folder above it needs one, and no line can have its name",
+            )?
+        }
+        Missing::Paths => String::from_str(alloc, "give the profile path lines")?,
+    };
+    format!(in alloc; "Unison tests this bar at the topmost changed path alone: {remedy}")
 }
 
-/// The pattern of the first bar that is missing above what a bar is for.
+/// The first bar that is missing above what a bar is for.
 fn missing_bar(
     alloc: Global,
     lines: &[Setting<'_>],
     bar: PathBar<'_>,
     own: &Choices,
-) -> Result<Option<String>, AllocError> {
+) -> Result<Option<Missing>, AllocError> {
     let bars = like_bars(alloc, lines, bar)?;
     let kept = kept_values(alloc, lines)?;
     for signs in own.signs()?.as_slice() {
@@ -176,7 +180,7 @@ fn missing_above(
     pattern: Pattern<'_, '_>,
     kept: &[&str],
     bars: &[&Choices],
-) -> Result<Option<String>, AllocError> {
+) -> Result<Option<Missing>, AllocError> {
     for path in kept {
         let missing = match pattern.kind {
             Kind::Name => missing_on_names(alloc, *path, bars)?,
@@ -194,19 +198,27 @@ fn missing_on_names(
     alloc: Global,
     kept: &str,
     bars: &[&Choices],
-) -> Result<Option<String>, AllocError> {
+) -> Result<Option<Missing>, AllocError> {
+    if kept.is_empty() {
+        return Ok(Some(Missing::Paths));
+    }
     let signs = signs_of_path(alloc, kept)?;
     let form = Pattern {
         kind: Kind::BelowPath,
         signs: signs.as_slice(),
     };
-    if kept.is_empty() {
-        return Ok(Some(String::new(alloc)));
-    }
     if is_covered(bars, &form)? {
         return Ok(None);
     }
-    Ok(Some(format!(in alloc; "BelowPath {kept}")?))
+    Ok(Some(missing_on(alloc, kept, &form)?))
+}
+
+/// The bar of that pattern, which is missing on a kept path. To Unison a last name `*` is another path than to hubsync.
+fn missing_on(alloc: Global, kept: &str, pattern: &Pattern<'_, '_>) -> Result<Missing, AllocError> {
+    if is_starred(kept) {
+        return Ok(Missing::Unwritten);
+    }
+    Missing::of_pattern(alloc, pattern)
 }
 
 /// The bar that is missing for a pattern of paths, on a path from the kept one down to the folder above what is matched.
@@ -215,33 +227,31 @@ fn missing_on_path(
     pattern: Pattern<'_, '_>,
     kept: &str,
     bars: &[&Choices],
-) -> Result<Option<String>, AllocError> {
+) -> Result<Option<Missing>, AllocError> {
     let own = signs_of_path(alloc, kept)?;
     if !is_below(alloc, pattern, kept, own.as_slice())? {
         return Ok(None);
     }
     let depth = count_names(kept);
-    if depth > 0 && !is_barred(bars, own.as_slice())? {
-        return Ok(Some(format!(in alloc; "Path {kept}")?));
+    let form = path_form(own.as_slice());
+    if depth > 0 && !is_covered(bars, &form)? {
+        return Ok(Some(missing_on(alloc, kept, &form)?));
     }
     for names in depth.saturating_add(1)..names_of(alloc, pattern.signs)?.len() {
-        let front = front_of(pattern.signs, names);
-        if !is_barred(bars, front)? {
-            let mut missing = String::from_str(alloc, "Path ")?;
-            push_signs(&mut missing, front)?;
-            return Ok(Some(missing));
+        let front = path_form(front_of(pattern.signs, names));
+        if !is_covered(bars, &front)? {
+            return Ok(Some(Missing::of_pattern(alloc, &front)?));
         }
     }
     Ok(None)
 }
 
-/// Returns whether a bar is on a path.
-fn is_barred(bars: &[&Choices], path: &[Sign<'_>]) -> Result<bool, AllocError> {
-    let form = Pattern {
+/// The pattern of a path.
+fn path_form<'s, 'p>(signs: &'s [Sign<'p>]) -> Pattern<'s, 'p> {
+    Pattern {
         kind: Kind::Path,
-        signs: path,
-    };
-    is_covered(bars, &form)
+        signs,
+    }
 }
 
 /// Returns whether a pattern of paths matches some that are strictly below a kept one.
@@ -255,13 +265,6 @@ pub(crate) fn is_below(
     if names_of(alloc, pattern.signs)?.len() <= depth {
         return Ok(false);
     }
-    let front = Pattern {
-        kind: Kind::Path,
-        signs: front_of(pattern.signs, depth),
-    };
-    let form = Pattern {
-        kind: Kind::Path,
-        signs: own,
-    };
-    Ok(depth == 0 || front.covers(&form))
+    let front = path_form(front_of(pattern.signs, depth));
+    Ok(depth == 0 || front.covers(&path_form(own)))
 }

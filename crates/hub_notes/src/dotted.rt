@@ -2,7 +2,8 @@
 //!
 //! To hubsync `?`, a set and what follows a `*` take such a dot. In Unison it is taken only by a dot that the pattern has there.
 
-use crate::sign::{Choices, Pattern, Sign, names_of, push_signs};
+use crate::missing::Missing;
+use crate::sign::{Choices, Pattern, Sign, names_of};
 use hub_glob::Kind;
 use std::alloc::{AllocError, Global};
 
@@ -12,12 +13,12 @@ const FORMS: usize = 64;
 /// How many missing forms are named at most.
 const NAMED: usize = 8;
 
-/// The pattern that matches with a dot what a line's pattern does, if none of the others covers that. It is written as a value.
+/// The pattern that matches with a dot what a line's pattern does, if none of the others covers that.
 pub(crate) fn missing_dots(
     alloc: Global,
     own: &Choices,
     others: &[&Choices],
-) -> Result<Option<String>, AllocError> {
+) -> Result<Option<Missing>, AllocError> {
     let mut missing = Vec::new(alloc);
     for signs in own.signs()?.as_slice() {
         push_missing(alloc, &mut missing, own.kind, signs.as_slice(), others)?;
@@ -25,27 +26,25 @@ pub(crate) fn missing_dots(
     if missing.is_empty() {
         return Ok(None);
     }
-    Ok(Some(value_of(alloc, own.kind, missing.as_slice())?))
+    Ok(Some(Missing::of_patterns(alloc, own.kind, missing.as_slice())?))
 }
 
-/// Adds the texts of the dotted forms of a choice that none of the others covers.
-fn push_missing(
+/// Adds the dotted forms of a choice that none of the others covers.
+fn push_missing<'p>(
     alloc: Global,
-    missing: &mut Vec<String>,
+    missing: &mut Vec<Vec<Sign<'p>>>,
     kind: Kind,
-    signs: &[Sign<'_>],
+    signs: &[Sign<'p>],
     others: &[&Choices],
 ) -> Result<(), AllocError> {
     let forms = forms_of(alloc, signs)?;
-    for form in forms.iter().skip(1) {
+    for form in forms.into_iter().skip(1) {
         let pattern = Pattern {
             kind,
             signs: form.as_slice(),
         };
         if missing.len() < NAMED && !is_covered(others, &pattern)? {
-            let mut text = String::new(alloc);
-            push_signs(&mut text, form.as_slice())?;
-            missing.push(text)?;
+            missing.push(form)?;
         }
     }
     Ok(())
@@ -62,28 +61,6 @@ pub(crate) fn is_covered(
         }
     }
     Ok(false)
-}
-
-/// The value of a line for these patterns: in braces, if there are several.
-fn value_of(alloc: Global, kind: Kind, patterns: &[String]) -> Result<String, AllocError> {
-    let mut value = String::from_str(alloc, word_of(kind))?;
-    let is_one = patterns.len() == 1;
-    value.push_str(if is_one { " " } else { " {" })?;
-    for (i, pattern) in patterns.iter().enumerate() {
-        value.push_str(if i == 0 { "" } else { "," })?;
-        value.push_str(pattern.as_str())?;
-    }
-    value.push_str(if is_one { "" } else { "}" })?;
-    Ok(value)
-}
-
-/// The word for a kind.
-pub(crate) fn word_of(kind: Kind) -> &'static str {
-    match kind {
-        Kind::Name => "Name",
-        Kind::Path => "Path",
-        Kind::BelowPath => "BelowPath",
-    }
 }
 
 /// The forms of a pattern: itself, and the others in which names that may begin with a dot do.

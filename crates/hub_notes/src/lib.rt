@@ -14,7 +14,8 @@
 //! - `unison`: the kinds of lines that Unison reads otherwise, the most dangerous first. `dotted`: patterns that match a dot at the
 //!   start of a name. `bar`: bars on paths. `ruled`: lines that let Unison break a rule. `line`: what one line shows by itself.
 //! - `query`: what lines of profiles and rules say. `hub_remarks` asks that, too. `setting`: what they set, each read once.
-//! - `sign`: patterns as signs, and whether one takes all that another one does.
+//! - `sign`: patterns as signs, whether one takes all that another one does, and how they are written. `missing`: patterns that a
+//!   profile lacks.
 //! - `said`: the lines, of which there are at most five.
 //!
 //! What Unison does was observed with version 2.52.1; `docs/UNISON.md` has the rules. The text is free, and is only tested
@@ -27,6 +28,7 @@ mod bar;
 mod dotted;
 mod idle;
 mod line;
+mod missing;
 mod query;
 mod ruled;
 mod said;

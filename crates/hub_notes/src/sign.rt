@@ -1,7 +1,7 @@
 //! Patterns as signs, and whether one takes all that another one does.
 ghost use Rattle.std.specs.Prelude.{◌≤◌, length};
 
-use hub_glob::{Kind, PathSpec, Piece};
+use hub_glob::{Kind, Part, PathSpec, Piece, text_of};
 use hub_path::RelPath;
 use hub_text::Items;
 use std::alloc::{AllocError, Global};
@@ -55,7 +55,16 @@ pub(crate) struct Pattern<'s, 'p> {
     pub(crate) signs: &'s [Sign<'p>],
 }
 
-impl Pattern<'_, '_> {
+impl<'p> Pattern<'_, 'p> {
+    /// Its signs.
+    pub(crate) fn copied(&self, alloc: Global) -> Result<Vec<Sign<'p>>, AllocError> {
+        let mut signs = Vec::new(alloc);
+        for sign in self.signs {
+            signs.push(*sign)?;
+        }
+        Ok(signs)
+    }
+
     /// Returns whether Unison matches with it each path that it matches with another one. (If not, it may still be so.)
     pub(crate) fn covers(&self, other: &Pattern<'_, '_>) -> bool {
         match (self.kind, other.kind) {
@@ -303,32 +312,70 @@ fn begins_with_dot(form: &[Sign<'_>], at: usize) -> bool {
     is_first && form.get(at).is_some_and(|sign| sign.is_dot())
 }
 
-/// Adds the text of a pattern without braces.
-pub(crate) fn push_signs(out: &mut String, signs: &[Sign<'_>]) -> Result<(), AllocError> {
-    for sign in signs {
-        match sign {
-            Sign::Letter(letter) => push_letter(out, *letter)?,
-            Sign::One => out.push('?')?,
-            Sign::Run => out.push('*')?,
-            Sign::Set(set) => push_set(out, *set)?,
+/// The value of a line for these patterns: in braces, if there are several. There is none if it can't be read, as it is too long.
+pub(crate) fn value_of(
+    alloc: Global,
+    kind: Kind,
+    patterns: &[Vec<Sign<'_>>],
+) -> Result<Option<String>, AllocError> {
+    let mut choices = Items::new(alloc);
+    for signs in patterns {
+        choices.push(pieces_of(alloc, signs.as_slice())?)?;
+    }
+    let text = text_of(alloc, kind, parts_of(alloc, choices)?.as_slice())?;
+    match PathSpec::read(alloc, text.as_str()) {
+        Ok(_) => Ok(Some(text)),
+        Err(_) => Ok(None),
+    }
+}
+
+/// The parts of a pattern that has these choices.
+fn parts_of(alloc: Global, choices: Items<Items<Piece>>) -> Result<Vec<Part>, AllocError> {
+    let mut parts = Vec::new(alloc);
+    let mut choices = choices.into_vec();
+    match choices.pop() {
+        Some(only) if choices.is_empty() => {
+            for piece in only.into_vec() {
+                parts.push(Part::One(piece))?;
+            }
         }
+        Some(last) => {
+            choices.push(last)?;
+            parts.push(Part::Brace(Items::from_vec(choices)))?;
+        }
+        None => {}
     }
-    Ok(())
+    Ok(parts)
 }
 
-/// Adds the text of a set.
-fn push_set(out: &mut String, set: &[char]) -> Result<(), AllocError> {
-    out.push('[')?;
-    for letter in set {
-        push_letter(out, *letter)?;
+/// The pieces of a pattern. A blank at its start or end would be dropped, so it is a set.
+fn pieces_of(alloc: Global, signs: &[Sign<'_>]) -> Result<Items<Piece>, AllocError> {
+    let mut pieces = Items::new(alloc);
+    for (i, sign) in signs.iter().enumerate() {
+        let is_outer = i == 0 || i.saturating_add(1) == signs.len();
+        pieces.push(piece_of(alloc, *sign, is_outer)?)?;
     }
-    out.push(']')
+    Ok(pieces)
 }
 
-/// Adds a character of a pattern that stands for itself.
-fn push_letter(out: &mut String, letter: char) -> Result<(), AllocError> {
-    if matches!(letter, '*' | '?' | '[' | ']' | '{' | '}' | ',' | '\\') {
-        out.push('\\')?;
+/// The piece of a sign, which is the first or the last one of a pattern or isn't.
+fn piece_of(alloc: Global, sign: Sign<'_>, is_outer: bool) -> Result<Piece, AllocError> {
+    match sign {
+        Sign::Letter(letter) if is_outer && (letter == ' ' || letter == '\t') => {
+            Ok(Piece::OneOf(set_of(alloc, &[letter])?))
+        }
+        Sign::Letter(letter) => Ok(Piece::Lit(letter)),
+        Sign::One => Ok(Piece::Any),
+        Sign::Run => Ok(Piece::Run),
+        Sign::Set(set) => Ok(Piece::OneOf(set_of(alloc, set)?)),
     }
-    out.push(letter)
+}
+
+/// The set of these characters.
+fn set_of(alloc: Global, letters: &[char]) -> Result<Items<char>, AllocError> {
+    let mut set = Items::new(alloc);
+    for letter in letters {
+        set.push(*letter)?;
+    }
+    Ok(set)
 }

@@ -158,7 +158,7 @@ fn words_on(
 ) -> Result<Option<String>, AllocError> {
     match difference {
         Difference::Arrow => arrow_words(alloc, line),
-        Difference::Star => star_words(alloc, line),
+        Difference::Star => star_words(alloc, lines, line),
         Difference::Bar => bar_words(alloc, lines, line),
         Difference::Dot => dot_words(alloc, lines, line),
         Difference::Byte => byte_words(alloc, line),

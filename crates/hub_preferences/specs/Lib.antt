@@ -1,4 +1,5 @@
 pub mod Table
+pub mod Places
 pub mod Kinds
 pub mod Spellings
 pub mod Counted

@@ -1,11 +1,13 @@
--- Values of `path` lines that Unison reads and the plain reader refuses, in the plain reader's
--- spelling.
+-- Lines in another spelling: values of `path` lines that Unison reads and the plain reader refuses, in
+-- the plain reader's spelling, and lines that it is to refuse.
 use Rattle.std.specs.Prelude.{◌≡◌, true, ℕ, Bool, not, ◌&&◌, ◌||◌, nat_eq, List, [], ◌∷◌, ◌++◌, Option, Some, None, Ok, if◌then◌else◌, codes, bytes_eq, encode_utf8_all}
 use Rattle.std.specs.List.{filter, flat_map, starts_with}
 use Rattle.std.specs.Str.{is_utf8, chars}
 use Rattle.hub_path.specs.Path.{Name, Path, is_place, path_of}
 use Rattle.hub_path.specs.Reading.{begins_with_slash, without_last_slash}
 use Rattle.hub_profile.specs.Reading.{kept_reading}
+use Rattle.hub_preferences.specs.Kinds.{kind_of, is_in_root}
+use Rattle.hub_preferences.specs.declared.kind.LineKind.{LineKind}
 use Rattle.hub_profile.specs.Lines.{trimmed_line, is_setting, has_equals, name_and_value, is_one_of}
 
 -- Unison takes a name that is empty or `.` for nothing: by `./a`, `a//b` and `a/./` it synchronizes
@@ -63,6 +65,19 @@ spelling_of_text t =
 
 abbrev pub spelling : List ℕ → Option (List ℕ)
 spelling l = if is_utf8 l then spelling_of_text (trimmed_line (chars l)) else None
+
+-- The line in the place of one that names a file that may lie in a root. The plain reader refuses it by
+-- its name.
+abbrev pub refused_line : List ℕ
+refused_line = codes "logfile in a root" ++ codes " ="
+
+-- The other line in the place of one of that kind.
+abbrev pub spelling_as : LineKind → List ℕ → Option (List ℕ)
+spelling_as k l = if is_in_root k then Some refused_line else spelling l
+
+-- The same of a line, where these are the roots of the bundle.
+abbrev pub other_spelling : List Path → List ℕ → Option (List ℕ)
+other_spelling roots l = spelling_as (kind_of roots l) l
 
 -- A line in its other spelling, if it has one.
 abbrev pub or_spelling : Option (List ℕ) → List ℕ → List ℕ

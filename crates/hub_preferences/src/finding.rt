@@ -2,12 +2,13 @@
 ghost use Rattle.std.specs.Prelude.{◌≡◌, ◌≢◌, IfOk, OnOk};
 ghost use Rattle.hub_text.specs.Lines.{lines_of};
 ghost use Rattle.hub_preferences.specs.Findings as spec;
-ghost use Rattle.hub_preferences.specs.Spellings.{or_spelling, spelling};
+ghost use Rattle.hub_preferences.specs.Spellings.{or_spelling, other_spelling};
 
+use crate::place::roots_in;
 use crate::section::{NO_PROFILE, Section};
-use crate::spelling::spelling;
+use crate::spelling::other_spelling;
 use hub_bundle::is_heading;
-use hub_path::Name;
+use hub_path::{Name, Root};
 use hub_profile::{Fault, read_profile};
 use hub_text::Lines;
 use std::alloc::{AllocError, Global};
@@ -41,14 +42,21 @@ pub enum Outcome {
 pub fn findings(alloc: Global, bundle: &[u8]) -> Result<Vec<Finding>, AllocError>
     ensures { IfOk result (λ v. v.items ≡ spec.findings_of bundle.now) }
 {
+    let roots = roots_in(alloc, bundle)?;
     let mut findings = Vec::new(alloc);
     let mut section = NO_PROFILE;
     let mut number = 0;
     let mut lines = Lines::new(bundle);
     while let Some(line) = lines.next() {
         number += 1;
-        section = section.at(alloc, line.text, lines.rest())?;
-        if let Some(outcome) = outcome_of(alloc, section, line.text, lines.rest())? {
+        section = section.at(alloc, roots.as_slice(), line.text, lines.rest())?;
+        if let Some(outcome) = outcome_of(
+            alloc,
+            roots.as_slice(),
+            section,
+            line.text,
+            lines.rest(),
+        )? {
             findings.push(Finding {
                 line: number,
                 outcome,
@@ -61,36 +69,44 @@ pub fn findings(alloc: Global, bundle: &[u8]) -> Result<Vec<Finding>, AllocError
 /// What becomes of a line of a section above these lines, unless it counts as it stands.
 fn outcome_of(
     alloc: Global,
+    roots: &[Root],
     section: Section,
     line: &[u8],
     below: &[u8],
 ) -> Result<Option<Outcome>, AllocError>
-    ensures { IfOk result (λ o. o ≡ spec.outcome_of section line.now (lines_of below.now)) }
+    ensures { IfOk result (λ o. o
+        ≡ spec.outcome_of roots.now section line.now (lines_of below.now)) }
 {
-    if section.leaves_out(alloc, line, below)? {
+    if section.leaves_out(alloc, roots, line, below)? {
         return Ok(Some(Outcome::LeftOut));
     }
-    refusal(alloc, section, line)
+    refusal(alloc, roots, section, line)
 }
 
 /// The refusal of a line of a section, if it is refused by itself.
-fn refusal(alloc: Global, section: Section, line: &[u8]) -> Result<Option<Outcome>, AllocError>
-    ensures { IfOk result (λ o. o ≡ spec.refusal section line.now) }
+fn refusal(
+    alloc: Global,
+    roots: &[Root],
+    section: Section,
+    line: &[u8],
+) -> Result<Option<Outcome>, AllocError>
+    ensures { IfOk result (λ o. o ≡ spec.refusal roots.now section line.now) }
 {
     if !section.is_profile || is_heading(line) {
         return Ok(None);
     }
-    match fault_of(alloc, line)? {
+    match fault_of(alloc, roots, line)? {
         Some(fault) => Ok(Some(Outcome::Refused(fault))),
         None => Ok(None),
     }
 }
 
 /// The fault for which the plain reader refuses a line of a profile by itself, in its own spelling.
-fn fault_of(alloc: Global, line: &[u8]) -> Result<Option<Fault>, AllocError>
-    ensures { IfOk result (λ f. f ≡ spec.fault_alone (or_spelling (spelling line.now) line.now)) }
+fn fault_of(alloc: Global, roots: &[Root], line: &[u8]) -> Result<Option<Fault>, AllocError>
+    ensures { IfOk result (λ f. f
+        ≡ spec.fault_alone (or_spelling (other_spelling roots.now line.now) line.now)) }
 {
-    match spelling(alloc, line)? {
+    match other_spelling(alloc, roots, line)? {
         Some(text) => fault_alone(alloc, text.as_bytes()),
         None => fault_alone(alloc, line),
     }

@@ -1,10 +1,12 @@
 //! What a line of a profile is to a cautious reading.
-ghost use Rattle.std.specs.Prelude.{◌≡◌, IfOk, chars};
+ghost use Rattle.std.specs.Prelude.{◌≡◌, [], IfOk, chars};
 ghost use Rattle.hub_preferences.specs.Kinds as kinds;
 ghost use Rattle.hub_preferences.specs.declared.table.Rule.TheVariants as rule_is;
 
-use crate::table::{Rule, rule_of};
+use crate::place::{is_apart, is_part_of_name};
+use crate::table::{Rule, meaning_of};
 use hub_glob::{GlobFault, PathSpec};
+use hub_path::Root;
 use hub_profile::{is_setting, line_text, name_and_value, parts_at_arrow, trimmed};
 use hub_text::begins_with;
 use std::alloc::{AllocError, Global};
@@ -27,6 +29,8 @@ pub(crate) enum LineKind {
     /// It has an `ignorenot` pattern that the plain reader can't read: it is left out, and so are all `ignore` lines of its
     /// profile.
     UnreadIgnoreNot,
+    /// It names a file that may lie in a root of a profile: another line takes its place, which the plain reader refuses.
+    InRoot,
 }
 
 impl LineKind {
@@ -50,50 +54,65 @@ impl LineKind {
     {
         matches!(self, LineKind::UnreadIgnoreNot)
     }
+
+    /// Returns whether it names a file that may lie in a root.
+    pub(crate) fn is_in_root(self) -> bool
+        ensures { result ≡ kinds.is_in_root self }
+    {
+        matches!(self, LineKind::InRoot)
+    }
 }
 
-/// What a line is.
-pub(crate) fn kind_of(alloc: Global, line: &[u8]) -> Result<LineKind, AllocError>
-    ensures { IfOk result (λ k. k ≡ kinds.kind_of line.now) }
+/// What a line is, where these are the roots of the bundle.
+pub(crate) fn kind_of(alloc: Global, roots: &[Root], line: &[u8]) -> Result<LineKind, AllocError>
+    ensures { IfOk result (λ k. k ≡ kinds.kind_of roots.now line.now) }
 {
     match str::from_utf8(line) {
-        Ok(text) => kind_of_text(alloc, line_text(text)),
+        Ok(text) => kind_of_text(alloc, roots, line_text(text)),
         Err(_) => Ok(LineKind::Stays),
     }
 }
 
 /// What a line without blanks around it is.
-fn kind_of_text(alloc: Global, text: &str) -> Result<LineKind, AllocError>
-    ensures { IfOk result (λ k. k ≡ kinds.kind_of_text (chars text.now)) }
+fn kind_of_text(alloc: Global, roots: &[Root], text: &str) -> Result<LineKind, AllocError>
+    ensures { IfOk result (λ k. k ≡ kinds.kind_of_text roots.now (chars text.now)) }
 {
     if !is_setting(text) {
         return Ok(LineKind::Stays);
     }
     match name_and_value(text) {
-        Some((name, value)) => kind_of_pair(alloc, name, value),
+        Some((name, value)) => kind_of_pair(alloc, roots, name, value),
         None => Ok(LineKind::Stays),
     }
 }
 
 /// What a line is that sets that name to that value.
-fn kind_of_pair(alloc: Global, name: &str, value: &str) -> Result<LineKind, AllocError>
-    ensures { IfOk result (λ k. k ≡ kinds.kind_of_pair (chars name.now, chars value.now)) }
+fn kind_of_pair(
+    alloc: Global,
+    roots: &[Root],
+    name: &str,
+    value: &str,
+) -> Result<LineKind, AllocError>
+    ensures { IfOk result (λ k. k
+        ≡ kinds.kind_of_pair roots.now (chars name.now, chars value.now)) }
 {
-    match rule_of(name) {
-        Some(rule) => kind_by(alloc, rule, value),
+    match meaning_of(name) {
+        Some(meaning) => kind_by(alloc, roots, meaning.rule, value),
         None => Ok(LineKind::Stays),
     }
 }
 
 /// What a line is that sets a preference of that rule to that value.
-fn kind_by(alloc: Global, rule: Rule, value: &str) -> Result<LineKind, AllocError>
-    ensures { IfOk result (λ k. k ≡ kinds.kind_by rule (chars value.now)) }
+fn kind_by(alloc: Global, roots: &[Root], rule: Rule, value: &str) -> Result<LineKind, AllocError>
+    ensures { IfOk result (λ k. k ≡ kinds.kind_by roots.now rule (chars value.now)) }
 {
     match rule {
         Rule::Stays => Ok(LineKind::Stays),
         Rule::LeftOut => Ok(LineKind::LeftOut),
         Rule::LeftOutIfOff => Ok(left_out_if(is_off(value))),
         Rule::LeftOutIfCentral => Ok(left_out_if(is_central(value))),
+        Rule::LeftOutIfName => Ok(left_out_if(is_part_of_name(value))),
+        Rule::LeftOutIfApart => file_kind(alloc, roots, value),
         Rule::Force => Ok(force_kind(value)),
         Rule::OverridesForce => Ok(LineKind::OverridesForce),
         Rule::Ignore => ignore_kind(alloc, value),
@@ -112,8 +131,19 @@ fn left_out_if(is_left_out: bool) -> LineKind
     }
 }
 
+fn file_kind(alloc: Global, roots: &[Root], value: &str) -> Result<LineKind, AllocError>
+    ensures { IfOk result (λ k. k
+        ≡ kinds.kind_by roots.now rule_is.LeftOutIfApart (chars value.now)) }
+{
+    if is_apart(alloc, roots, value)? {
+        Ok(LineKind::LeftOut)
+    } else {
+        Ok(LineKind::InRoot)
+    }
+}
+
 fn force_kind(value: &str) -> LineKind
-    ensures { result ≡ kinds.kind_by rule_is.Force (chars value.now) }
+    ensures { result ≡ kinds.kind_by [] rule_is.Force (chars value.now) }
 {
     if names_no_root(value) {
         LineKind::ForcesNoRoot
@@ -123,7 +153,7 @@ fn force_kind(value: &str) -> LineKind
 }
 
 fn ignore_kind(alloc: Global, value: &str) -> Result<LineKind, AllocError>
-    ensures { IfOk result (λ k. k ≡ kinds.kind_by rule_is.Ignore (chars value.now)) }
+    ensures { IfOk result (λ k. k ≡ kinds.kind_by [] rule_is.Ignore (chars value.now)) }
 {
     if is_pattern(alloc, value)? {
         Ok(LineKind::Ignore)
@@ -133,7 +163,7 @@ fn ignore_kind(alloc: Global, value: &str) -> Result<LineKind, AllocError>
 }
 
 fn ignorenot_kind(alloc: Global, value: &str) -> Result<LineKind, AllocError>
-    ensures { IfOk result (λ k. k ≡ kinds.kind_by rule_is.IgnoreNot (chars value.now)) }
+    ensures { IfOk result (λ k. k ≡ kinds.kind_by [] rule_is.IgnoreNot (chars value.now)) }
 {
     if is_pattern(alloc, value)? {
         Ok(LineKind::Stays)
@@ -143,7 +173,7 @@ fn ignorenot_kind(alloc: Global, value: &str) -> Result<LineKind, AllocError>
 }
 
 fn bar_kind(alloc: Global, value: &str) -> Result<LineKind, AllocError>
-    ensures { IfOk result (λ k. k ≡ kinds.kind_by rule_is.PartialBar (chars value.now)) }
+    ensures { IfOk result (λ k. k ≡ kinds.kind_by [] rule_is.PartialBar (chars value.now)) }
 {
     let is_kept = is_bar(alloc, value)?;
     Ok(left_out_if(!is_kept))

@@ -10,13 +10,14 @@ ghost use Rattle.hub_preferences.specs.Spellings.{ReadsBack, is_respelled, names
 /// A line that is neither left out nor has another spelling stands as it was. Only a `path` line
 /// has another one.
 pub fn a_line_that_counts_stands()
-    ensures { LineStaysIf (λ s l below. counted.changes s l.text below ≡ false) }
+    ensures { LineStaysIf
+        (λ roots s l below. counted.changes roots s l.text below ≡ false) }
 {}
 
 /// No line of another section changes than that of a profile, and no heading does.
 pub fn only_lines_of_profiles_change()
-    ensures other { LineStaysIf (λ s l below. s.is_profile ≡ false) }
-    ensures heading { LineStaysIf (λ s l below. is_heading l.text ≡ true) }
+    ensures other { LineStaysIf (λ roots s l below. s.is_profile ≡ false) }
+    ensures heading { LineStaysIf (λ roots s l below. is_heading l.text ≡ true) }
 {}
 
 /// A bundle without a line to leave out or to spell otherwise is as it was.

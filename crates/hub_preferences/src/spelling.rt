@@ -1,17 +1,55 @@
-//! Values of `path` lines that Unison reads and the plain reader refuses.
+//! Lines in another spelling.
 ghost use Rattle.std.specs.Prelude.{◌≡◌, ◌++◌, ◌&&◌, ◌||◌, ◌∷◌, [], false, codes, chars, string_bytes, IfOk, MatchOption, Some, None};
 ghost use Rattle.hub_path.specs.Path.{is_place};
 ghost use Rattle.hub_profile.specs.Lines.{is_one_of};
 ghost use Rattle.hub_preferences.specs.Spellings as spec;
 
-use hub_path::{Name, without_last_slash};
+use crate::kind::{LineKind, kind_of};
+use hub_path::{Name, Root, without_last_slash};
 use hub_profile::{is_setting, line_text, name_and_value};
 use hub_text::begins_with;
 use std::alloc::{AllocError, Global};
 
+/// The name by which the plain reader refuses a line that names a file which may lie in a root of a profile: it stands in place of
+/// `logfile`.
+pub const LOGFILE_IN_ROOT: &str = "logfile in a root";
+
+/// The line in place of another one, if it has another spelling, where these are the roots of the bundle.
+pub(crate) fn other_spelling(
+    alloc: Global,
+    roots: &[Root],
+    line: &[u8],
+) -> Result<Option<String>, AllocError>
+    ensures { IfOk result (λ o. MatchOption o (spec.other_spelling roots.now line.now ≡ None)
+        (λ t. spec.other_spelling roots.now line.now ≡ Some (string_bytes t))) }
+{
+    let kind = kind_of(alloc, roots, line)?;
+    spelling_as(alloc, kind, line)
+}
+
+/// The line in place of one of that kind.
+fn spelling_as(alloc: Global, kind: LineKind, line: &[u8]) -> Result<Option<String>, AllocError>
+    ensures { IfOk result (λ o. MatchOption o (spec.spelling_as kind line.now ≡ None)
+        (λ t. spec.spelling_as kind line.now ≡ Some (string_bytes t))) }
+{
+    if kind.is_in_root() {
+        return Ok(Some(refused_line(alloc)?));
+    }
+    spelling(alloc, line)
+}
+
+/// The line in place of one that names a file which may lie in a root.
+fn refused_line(alloc: Global) -> Result<String, AllocError>
+    ensures { IfOk result (λ t. string_bytes t ≡ spec.refused_line) }
+{
+    let mut line = String::from_str(alloc, LOGFILE_IN_ROOT)?;
+    line.push_str(" =")?;
+    Ok(line)
+}
+
 /// The line in place of one that Unison reads in another spelling: a `path` line with names that are empty or `.`, which count
 /// for nothing there.
-pub(crate) fn spelling(alloc: Global, line: &[u8]) -> Result<Option<String>, AllocError>
+fn spelling(alloc: Global, line: &[u8]) -> Result<Option<String>, AllocError>
     ensures { IfOk result (λ o. MatchOption o (spec.spelling line.now ≡ None)
         (λ t. spec.spelling line.now ≡ Some (string_bytes t))) }
 {

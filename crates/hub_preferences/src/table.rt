@@ -1,15 +1,16 @@
-//! What becomes of a line of a profile in a cautious reading, by the preference that it sets.
-ghost use Rattle.std.specs.Prelude.{◌≡◌, true, chars};
-ghost use Rattle.hub_profile.specs.LineByLine.{are_words, look_up};
-ghost use Rattle.hub_preferences.specs.Table.{other_rule_named, rule_named, rules_of};
+//! What the lines of a profile do, and what becomes of them in a cautious reading, by the preference that they set.
+ghost use Rattle.std.specs.Prelude.{◌≡◌, chars};
+ghost use Rattle.hub_preferences.specs.Table as spec;
 
 mod changes;
 mod displays;
+mod elsewhere;
 mod staying;
 mod transfers;
 
 pub use changes::CHANGES;
 pub use displays::DISPLAYS;
+pub use elsewhere::ELSEWHERE;
 pub use staying::STAYING;
 pub use transfers::TRANSFERS;
 
@@ -24,6 +25,10 @@ pub enum Rule {
     LeftOutIfOff,
     /// They are left out with the value `central`.
     LeftOutIfCentral,
+    /// They are left out with a value that can be a part of a name: it has no `/`, `\` or `:`.
+    LeftOutIfName,
+    /// They are left out if the value is a file's place that surely lies in no root of a profile. Otherwise they are refused.
+    LeftOutIfApart,
     /// As of `force`.
     Force,
     /// They are left out, and with them all `force` lines of their profile.
@@ -36,6 +41,19 @@ pub enum Rule {
     PartialBar,
 }
 
+/// What Unison may do by the lines that set a preference, beside what it may do without them.
+#[derive(Clone, Copy, Debug, PartialEq, Eq)]
+pub enum Effect {
+    /// It may change less at the roots, or refuses to run.
+    HoldsBack,
+    /// It may change neither less nor more at the roots, and writes nothing else.
+    NoInfluence,
+    /// It may change more at the roots, or the same by other names.
+    AddsChanges,
+    /// It writes outside what it synchronizes: copies, a log, lines of a profile, or whatever a program writes that it starts.
+    WritesElsewhere,
+}
+
 /// Where it is from what a preference does.
 #[derive(Clone, Copy, Debug, PartialEq, Eq)]
 pub enum Source {
@@ -45,42 +63,84 @@ pub enum Source {
     Trial,
 }
 
-/// What becomes of the lines that set a preference, why, and where that is from.
+/// What becomes of the lines that set a preference, what they do, why, and where that is from.
 #[derive(Clone, Copy, Debug, PartialEq, Eq)]
 pub struct Preference {
     /// What becomes of them.
     pub rule: Rule,
+    /// What Unison may do by them.
+    pub effect: Effect,
     /// Why. It is said of a line that is left out.
     pub reason: &'static str,
     /// Where that is from.
     pub source: Source,
 }
 
-/// What becomes of the lines that set the preference of that name. Those of other names stay.
-pub(crate) fn rule_of(name: &str) -> Option<Rule>
-    ensures { result ≡ rule_named (chars name.now) }
+/// What is said of the lines that set a preference.
+#[derive(Clone, Copy, Debug, PartialEq, Eq)]
+pub(crate) struct Meaning {
+    /// What becomes of them.
+    pub(crate) rule: Rule,
+    /// What Unison may do by them.
+    pub(crate) effect: Effect,
+}
+
+/// Returns what Unison may do by the lines that set the preference of that name, if it has one of that name.
+///
+/// The name is spelled as a profile has it: Unison takes no other case and no start of a name. Other spellings of a preference, as
+/// `mirror` for `backup`, are names of their own.
+pub fn effect_of(name: &str) -> Option<Effect>
+    ensures { result ≡ spec.effect_named (chars name.now) }
+{
+    let meaning = meaning_of(name)?;
+    Some(meaning.effect)
+}
+
+/// What is said of the preference of that name. Lines of other names stay.
+pub(crate) fn meaning_of(name: &str) -> Option<Meaning>
+    ensures { result ≡ spec.meaning_named (chars name.now) }
 {
     match named(&CHANGES, name) {
-        Some(rule) => Some(rule),
-        None => other_rule_of(name),
+        Some(meaning) => Some(meaning),
+        None => quiet_meaning(name),
     }
 }
 
-/// The same of the preferences by which Unison changes neither less nor more.
-fn other_rule_of(name: &str) -> Option<Rule>
-    ensures { result ≡ other_rule_named (chars name.now) }
+/// The same of the preferences by which Unison changes neither less nor more at the roots, and of those whose lines stay.
+fn quiet_meaning(name: &str) -> Option<Meaning>
+    ensures { result ≡ spec.quiet_meaning (chars name.now) }
+{
+    match named(&ELSEWHERE, name) {
+        Some(meaning) => Some(meaning),
+        None => other_meaning(name),
+    }
+}
+
+fn other_meaning(name: &str) -> Option<Meaning>
+    ensures { result ≡ spec.other_meaning (chars name.now) }
 {
     match named(&TRANSFERS, name) {
-        Some(rule) => Some(rule),
-        None => named(&DISPLAYS, name),
+        Some(meaning) => Some(meaning),
+        None => shown_meaning(name),
+    }
+}
+
+fn shown_meaning(name: &str) -> Option<Meaning>
+    ensures { result ≡ spec.shown_meaning (chars name.now) }
+{
+    match named(&DISPLAYS, name) {
+        Some(meaning) => Some(meaning),
+        None => named(&STAYING, name),
     }
 }
 
 /// What is beside that name in a table of ASCII words, if the name is there.
-fn named(rows: &[(&str, Preference)], name: &str) -> Option<Rule>
-    ensures { are_words (rules_of rows.now) ≡ true
-        → result ≡ look_up (chars name.now) (rules_of rows.now) }
+fn named(rows: &[(&str, Preference)], name: &str) -> Option<Meaning>
+    ensures { spec.IsLookedUp rows.now (chars name.now) result }
 {
     let (_, preference) = rows.iter().find(|(word, _)| *word == name)?;
-    Some(preference.rule)
+    Some(Meaning {
+        rule: preference.rule,
+        effect: preference.effect,
+    })
 }

@@ -50,6 +50,10 @@ fn say_refused(out: &mut String, source: &Source<'_>, refusal: &Refusal) -> Said
             out,
             "a profile's paths and patterns have at most 4,096 beginnings",
         ),
+        Refusal::SameArchive { .. } => say(
+            out,
+            "run one after the other: Unison has one archive for both, and two runs at once bring deleted files back",
+        ),
         Refusal::TooLarge => say(out, "nothing is known: fewer * in patterns would help"),
         _ => say_certificates(out, source),
     }

@@ -208,8 +208,14 @@ fn say_no_equals(out: &mut String, text: &str) -> Said {
     )
 }
 
-/// Says what an unknown preference may mean.
+/// Says what an unknown preference may mean. A `logfile` line is refused by its place alone.
 fn say_unknown(out: &mut String, alloc: Global, name: &str, is_of_rules: bool) -> Said {
+    if name == "logfile" && !is_of_rules {
+        return say(
+            out,
+            "Unison may write this log in a root: name a file that lies in none",
+        );
+    }
     if WITHOUT_EFFECT.split(' ').any(|word| word == name) {
         return writeln!(
             out,

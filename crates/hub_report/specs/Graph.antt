@@ -165,6 +165,31 @@ abbrev pub overlap_in : CheckFault → Option Pair
 overlap_in (fault.Overlap w o place held path) = Some (record { writer = w; other = o })
 overlap_in _ = None
 
+-- The red line of two profiles that share an archive; and the same if these are joined before.
+abbrev pub archive_line : List Parts → Pair → List ℕ
+archive_line Ps p =
+    red_edge (name_shown Ps p.writer) (name_shown Ps p.other) (codes "same archive")
+
+abbrev pub archive_edge : List Parts → List Pair → Pair → List ℕ
+archive_edge Ps ps p = unless_joined ps p (archive_line Ps p)
+
+-- Two profiles of these numbers.
+abbrev pub pair_of : ℕ × ℕ → Pair
+pair_of numbers = record { writer = numbers.0; other = numbers.1 }
+
+-- The red lines of profiles of these numbers that share archives, in their order; and which profiles
+-- are joined after them.
+abbrev pub archive_edges : List Parts → List Pair → List (ℕ × ℕ) → List ℕ
+archive_edges Ps ps [] = []
+archive_edges Ps ps (a ∷ archives) =
+    archive_edge Ps ps (pair_of a)
+    ++ archive_edges Ps (joined_after ps (Some (pair_of a))) archives
+
+abbrev pub joined_by_archives : List Pair → List (ℕ × ℕ) → List Pair
+joined_by_archives ps [] = ps
+joined_by_archives ps (a ∷ archives) =
+    joined_by_archives (joined_after ps (Some (pair_of a))) archives
+
 -- The red line of a fault, if these are joined before.
 abbrev pub red_line : List Parts → List Pair → CheckFault → List ℕ
 red_line Ps ps (fault.Overlap w o place held path) =
@@ -192,15 +217,18 @@ dashed_lines Ps ps [] = []
 dashed_lines Ps ps (e ∷ es) =
     dashed_line Ps ps (undecided_in e) ++ dashed_lines Ps (joined_after ps (undecided_in e)) es
 
--- A red line for each two profiles that clash, and then a dashed one for each other two of which
--- it is too large to decide whether they do.
-abbrev pub joining_lines : List Parts → List CheckFault → List ℕ
-joining_lines Ps es = red_lines Ps [] es ++ dashed_lines Ps (joined_by_red [] es) es
+-- A red line for each two profiles that clash, then one for each other two that share an archive, and
+-- then a dashed one for each other two of which it is too large to decide whether they clash.
+abbrev pub joining_lines : List Parts → List CheckFault → List (ℕ × ℕ) → List ℕ
+joining_lines Ps es archives =
+    let red : List Pair = joined_by_red [] es in
+    red_lines Ps [] es
+    ++ (archive_edges Ps red archives ++ dashed_lines Ps (joined_by_archives red archives) es)
 
--- The graph of a set with these faults.
-abbrev pub graph_text : Members → List CheckFault → List ℕ
-graph_text S es =
+-- The graph of a set with these faults, and with profiles of these numbers that share archives.
+abbrev pub graph_text : Members → List CheckFault → List (ℕ × ℕ) → List ℕ
+graph_text S es archives =
     head_text
     ++ (profile_lines es 0 S.profiles
     ++ (root_lines S.profiles
-    ++ (joining_lines S.profiles es ++ codes "}\n")))
+    ++ (joining_lines S.profiles es archives ++ codes "}\n")))

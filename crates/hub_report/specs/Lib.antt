@@ -2,6 +2,7 @@ pub mod Blocks
 pub mod Texts
 pub mod Pairs
 pub mod Refusal
+pub mod Archive
 pub mod Run
 pub mod Jobs
 pub mod Rounds

@@ -1,16 +1,18 @@
 -- The text and the status of each answer.
 use Rattle.std.specs.Prelude.{◌≡◌, ◌≢◌, ⊤, ℕ, Bool, true, false, List, [], Option, None, codes, if◌then◌else◌, string_bytes}
+use Rattle.hub_profile.specs.Parts.{Parts}
 use Rattle.hub_cert.specs.Set.{Members}
 use Rattle.hub_cert.specs.declared.fault.CheckFault.{CheckFault}
 use Rattle.hub_cert.specs.declared.fault.CheckFault.TheVariants as fault
 use Rattle.hub_bundle.specs.declared.input.InputFault.{InputFault}
 use Rattle.hub_bundle.specs.Input.{some_failed}
 use Rattle.hub_report.specs.declared.report.Report.{Report}
-use Rattle.hub_report.specs.declared.report.Report.TheVariants.{Faulty, Reach, NoState, Refused}
+use Rattle.hub_report.specs.declared.report.Report.TheVariants.{Faulty, Reach, NoState, Refused, SameArchive}
 use Rattle.hub_report.specs.declared.report.Report.TheVariants.{Verdict, Clashes, Run}
 use Rattle.hub_report.specs.declared.report.Report.TheVariants.{Imported, NotImported}
 use Rattle.hub_report.specs.declared.report.Report.TheVariants.{Mended, NotMended}
 use Rattle.hub_report.specs.declared.report.Report.TheVariants.{NotVerified, OutOfMemory}
+use Rattle.hub_report.specs.Archive.{archive_line}
 use Rattle.hub_report.specs.ClashesAnswer as clashes
 use Rattle.hub_report.specs.FaultyInput as input
 use Rattle.hub_report.specs.ReachAnswer as reach
@@ -24,6 +26,7 @@ text_of (Faulty f) = input.text_of f
 text_of (Reach a) = reach.text_of a
 text_of NoState = codes "fault: no state\n"
 text_of (Refused line refusal) = string_bytes line
+text_of (SameArchive line refusal) = string_bytes line
 text_of (Verdict v) = verdict.text_of v
 text_of (Clashes a) = clashes.text_of a
 text_of (Run a) = run.text_of a
@@ -44,6 +47,7 @@ status_of (Faulty f) = 2
 status_of (Reach a) = reach.status_of a
 status_of NoState = 2
 status_of (Refused line refusal) = 1
+status_of (SameArchive line refusal) = 1
 status_of (Verdict v) = 0
 status_of (Clashes a) = clashes.status_of a
 status_of (Run a) = run.status_of a
@@ -74,6 +78,12 @@ abbrev pub TellsRefusal : Members → CheckFault → Report → Type 0
 TellsRefusal S e (Refused line refusal) = (e ≢ fault.OutOfMemory) × (string_bytes line ≡ refusal_line S e)
 TellsRefusal S e OutOfMemory = ⊤
 TellsRefusal S e _ = ⊥
+
+-- That two profiles of these numbers share an archive is told by its line.
+abbrev pub TellsArchive : List Parts → ℕ × ℕ → Report → Type 0
+TellsArchive Ps numbers (SameArchive line refusal) = string_bytes line ≡ archive_line Ps numbers
+TellsArchive Ps numbers OutOfMemory = ⊤
+TellsArchive Ps numbers _ = ⊥
 
 -- A fault has no numbers of profiles, rules or goals, so its line is the same for all sets.
 abbrev pub has_no_numbers : CheckFault → Bool

@@ -11,11 +11,16 @@ use Rattle.hub_rounds.specs.declared.placing.Placing.TheVariants.{Round, Unplace
 use Rattle.hub_rounds.specs.declared.placing.Obstacle.{Obstacle}
 use Rattle.hub_rounds.specs.declared.placing.Obstacle.TheVariants.{Breach, TooLarge}
 use Rattle.hub_rounds.specs.declared.rounds.Rounds.{Rounds}
+use Rattle.hub_report.specs.Archive.{archive_lines}
 use Rattle.hub_report.specs.Refusal.{joined, refusal_line}
 
 -- The lines of the faults of a set, each as if it were the only one.
 abbrev pub clash_lines : Members → List CheckFault → List ℕ
 clash_lines S es = flat_map (refusal_line S) es
+
+-- These, and then the lines of profiles of these numbers that share archives.
+abbrev pub lines_of_all : Members → List CheckFault → List (ℕ × ℕ) → List ℕ
+lines_of_all S es archives = clash_lines S es ++ archive_lines S.profiles archives
 
 -- The line of a profile of the round of that number.
 abbrev pub line_in : List ℕ → Parts → List ℕ

@@ -3,6 +3,7 @@ ghost use Rattle.std.specs.Prelude.{◌≡◌, not, string_bytes, IfOk, OnOk, So
 ghost use Rattle.hub_report.specs.Texts.{Gains};
 ghost use Rattle.hub_report.specs.Graph as graph;
 ghost use Rattle.hub_report.specs.Graph.{dashed_line, dashed_lines, joined_after, joined_by_red, joining_lines};
+ghost use Rattle.hub_report.specs.Graph.{archive_edge, archive_line, archive_edges, joined_by_archives};
 ghost use Rattle.hub_report.specs.Graph.{overlap_edge, overlap_in, red_edge, red_line, red_lines, undecided_line};
 ghost use Rattle.hub_report.specs.Pairs as pairs;
 
@@ -16,18 +17,21 @@ use hub_path::RelPath;
 use hub_profile::Profile;
 use std::alloc::{AllocError, Global};
 
-/// Adds a red line for each two profiles that clash, and then a dashed one for each other two of which it was too large to
-/// decide whether they do.
+/// Adds a red line for each two profiles that clash, then one for each other two of these numbers, which share an archive, and
+/// then a dashed one for each other two of which it was too large to decide whether they clash.
 pub(crate) fn push_clashes(
     alloc: Global,
     text: &mut String,
     faults: &[CheckFault],
+    archives: &[(usize, usize)],
     profiles: &[Profile],
 ) -> Result<(), AllocError>
-    ensures { OnOk result (Gains text.old text.new (joining_lines profiles.now faults.now)) }
+    ensures { OnOk result (Gains text.old text.new
+        (joining_lines profiles.now faults.now archives.now)) }
 {
     let mut joined = Vec::new(alloc);
     push_red_lines(alloc, text, &mut joined, faults, profiles)?;
+    push_archive_edges(alloc, text, &mut joined, archives, profiles)?;
     push_dashed_lines(alloc, text, &mut joined, faults, profiles)
 }
 
@@ -80,6 +84,55 @@ fn push_red_line(
         }
         _ => Ok(()),
     }
+}
+
+/// Adds a red line for each two profiles that share an archive and aren't joined, and joins them.
+fn push_archive_edges(
+    alloc: Global,
+    text: &mut String,
+    joined: &mut Vec<Pair>,
+    archives: &[(usize, usize)],
+    profiles: &[Profile],
+) -> Result<(), AllocError>
+    ensures text { OnOk result (Gains text.old text.new
+        (archive_edges profiles.now joined.old.items archives.now)) }
+    ensures joined { OnOk result (joined.new.items
+        ≡ joined_by_archives joined.old.items archives.now) }
+{
+    for archive in archives {
+        let pair = pair_of(*archive);
+        push_archive_edge(alloc, text, joined, profiles, pair)?;
+    }
+    Ok(())
+}
+
+/// Two profiles of these numbers.
+fn pair_of(numbers: (usize, usize)) -> Pair
+    ensures { result ≡ graph.pair_of numbers }
+{
+    Pair {
+        writer: numbers.0,
+        other: numbers.1,
+    }
+}
+
+/// Adds a red line for two profiles that share an archive, if they aren't joined, and joins them.
+fn push_archive_edge(
+    alloc: Global,
+    text: &mut String,
+    joined: &mut Vec<Pair>,
+    profiles: &[Profile],
+    pair: Pair,
+) -> Result<(), AllocError>
+    ensures text { OnOk result (Gains text.old text.new
+        (archive_edge profiles.now joined.old.items pair)) }
+    ensures joined { OnOk result (joined.new.items
+        ≡ joined_after joined.old.items (Some pair)) }
+{
+    if join(joined, pair)? {
+        push_archive(alloc, text, profiles, pair)?;
+    }
+    Ok(())
 }
 
 /// Adds a dashed line for each two profiles of which it was too large to decide whether they clash, if they aren't joined.
@@ -151,6 +204,20 @@ fn push_overlap(
     push_red_edge(text, writer.as_str(), other.as_str(), path.as_str())
 }
 
+/// Adds the red line of two profiles that share an archive.
+fn push_archive(
+    alloc: Global,
+    text: &mut String,
+    profiles: &[Profile],
+    pair: Pair,
+) -> Result<(), AllocError>
+    ensures { OnOk result (Gains text.old text.new (archive_line profiles.now pair)) }
+{
+    let writer = name_shown(alloc, profiles, pair.writer)?;
+    let other = name_shown(alloc, profiles, pair.other)?;
+    push_red_edge(text, writer.as_str(), other.as_str(), "same archive")
+}
+
 /// Adds the dashed line of two profiles of which it was too large to decide whether they clash.
 fn push_undecided(
     alloc: Global,
@@ -178,10 +245,15 @@ fn name_shown(alloc: Global, profiles: &[Profile], number: usize) -> Result<Stri
     escaped(alloc, name_at(profiles, number))
 }
 
-/// Adds the red line that joins two profiles of these names, with a path.
+/// Adds the red line that joins two profiles of these names, with a label.
 #[tactic(auto, unfolding(crate::specs::Graph::red_edge))]
-fn push_red_edge(text: &mut String, writer: &str, other: &str, path: &str) -> Result<(), AllocError>
-    ensures { OnOk result (Gains text.old text.new (red_edge writer.now other.now path.now)) }
+fn push_red_edge(
+    text: &mut String,
+    writer: &str,
+    other: &str,
+    label: &str,
+) -> Result<(), AllocError>
+    ensures { OnOk result (Gains text.old text.new (red_edge writer.now other.now label.now)) }
 {
     push_all(
         text,
@@ -191,7 +263,7 @@ fn push_red_edge(text: &mut String, writer: &str, other: &str, path: &str) -> Re
             "\" -- \"profile ",
             other,
             "\" [color = red, fontcolor = red, label = \"",
-            path,
+            label,
             "\"];\n",
         ],
     )

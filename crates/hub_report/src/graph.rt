@@ -17,7 +17,7 @@ use std::collections::BTreeSet;
 pub struct Graph {
     /// The text of the graph, for Graphviz.
     pub text: String,
-    /// Whether nothing clashes and nothing may break a rule, and no goal was too large to be searched.
+    /// Whether nothing clashes and nothing may break a rule, no goal was too large to be searched, and no archive is shared.
     pub safe: bool,
 }
 
@@ -29,21 +29,23 @@ const HEAD: &str = "graph clashes {
 ";
 
 /// The text of a graph of a set for Graphviz: a box for each profile and lines to its two roots, and a red line for each two
-/// profiles that clash, with the path of the first fault that is about the two. A profile that may break a rule is a red box.
-/// What is too large to decide is dashed.
+/// profiles that clash, with the path of the first fault that is about the two. Others of these numbers, which share an archive,
+/// are joined by a red line that says so. A profile that may break a rule is a red box. What is too large to decide is dashed.
 pub fn graph_of_clashes(
     alloc: Global,
     set: &ProfileSet,
     clashes: &Clashes,
+    archives: &[(usize, usize)],
 ) -> Result<String, AllocError>
-    ensures { IfOk result (λ t. string_bytes t ≡ graph.graph_text set.now clashes.now) }
+    ensures { IfOk result (λ t. string_bytes t
+        ≡ graph.graph_text set.now clashes.now archives.now) }
 {
     let profiles = set.profiles();
     let faults = clashes.lines();
     let mut text = String::from_str(alloc, HEAD)?;
     push_profiles(alloc, &mut text, faults, profiles)?;
     push_roots(alloc, &mut text, profiles)?;
-    push_clashes(alloc, &mut text, faults, profiles)?;
+    push_clashes(alloc, &mut text, faults, archives, profiles)?;
     text.push_str("}\n")?;
     Ok(text)
 }

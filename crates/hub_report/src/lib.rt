@@ -6,7 +6,7 @@
 //! - [`Run`] is what the jobs of a safe set did and left.
 //! - [`RoundsRun`] is what the jobs of a set did and left that were run by rounds.
 //! - [`lines_of_jobs`] are the lines that say what jobs did.
-//! - [`lines_of_clashes`] are the lines of all that clashes in a set, and [`text_of_rounds`] is the text of its rounds.
+//! - [`lines_of_clashes`] are the lines of all that clashes in a set and of archives that are shared, and [`text_of_rounds`] is the text of its rounds.
 //! - [`graph_of_clashes`] is the text of a [`Graph`] of what clashes, for Graphviz.
 //! - [`undecided_pairs`] are the lines for standard error: which two profiles were too large to decide.
 //! - [`Blocks`] is the text of an answer, in blocks. [`Told`] is what the answer tells, as a value for remarks on it.
@@ -34,7 +34,7 @@
 //! `Verdict`, `ClashesAnswer` and `RunAnswer` have those of its cases), `specs/Blocks` (the bytes of a text in blocks),
 //! `specs/Jobs` (the lines of jobs), `specs/Rounds` (those of clashes and rounds), `specs/RoundsRun` (the text of a run by
 //! rounds), `specs/Graph` (that of a graph), `specs/Undecided` (the lines for standard error), `specs/Run` (the line of why jobs
-//! weren't run), `specs/Refusal` (the lines of refusals) and `specs/Faults` (the names of faults and their lines). When an answer
+//! weren't run), `specs/Refusal` (the lines of refusals), `specs/Archive` (those of archives that are shared) and `specs/Faults` (the names of faults and their lines). When an answer
 //! is right is said in `hub_serve`.
 //!
 //! Only functions that return a `Result` or a `Report` allocate.
@@ -49,6 +49,7 @@
 //! When an answer is right is said in `hub_serve`. What [`Told`] says is only tested. What `undecided_pairs` gives goes to standard error, which no contract sees.
 #![tactic(auto)]
 
+mod archive;
 mod blocks;
 mod clashes_answer;
 mod edges;

@@ -5,8 +5,9 @@ ghost use Rattle.hub_cert.specs.Set.{Members};
 ghost use Rattle.hub_report.specs.Refusal as lines;
 ghost use Rattle.hub_report.specs.Refusal.{OfWriter};
 ghost use Rattle.hub_report.specs.Report as report;
-ghost use Rattle.hub_report.specs.Rounds.{clash_lines};
+ghost use Rattle.hub_report.specs.Rounds.{clash_lines, lines_of_all};
 
+use crate::archive::push_archives;
 use crate::parts::joined;
 use crate::report::{OUT_OF_MEMORY, Report};
 use crate::told::Refusal;
@@ -64,12 +65,24 @@ impl<'a> Report<'a> {
     }
 }
 
-/// The lines of what clashes in a set and of what breaks a rule, each as if it were the only one.
+/// The lines of what clashes in a set and of what breaks a rule, each as if it were the only one, and then those of profiles of
+/// these numbers, which share an archive.
 pub fn lines_of_clashes(
     alloc: Global,
     set: &ProfileSet,
     clashes: &Clashes,
+    archives: &[(usize, usize)],
 ) -> Result<String, AllocError>
+    ensures { IfOk result (λ t. string_bytes t
+        ≡ lines_of_all set.now clashes.now archives.now) }
+{
+    let mut text = lines_of_faults(alloc, set, clashes)?;
+    push_archives(alloc, &mut text, set.profiles(), archives)?;
+    Ok(text)
+}
+
+/// The lines of what clashes in a set and of what breaks a rule.
+fn lines_of_faults(alloc: Global, set: &ProfileSet, clashes: &Clashes) -> Result<String, AllocError>
     ensures { IfOk result (λ t. string_bytes t ≡ clash_lines set.now clashes.now) }
 {
     let goals = set.goals(alloc)?;

@@ -26,6 +26,8 @@ pub enum Report<'a> {
     NoState,
     /// The profiles may not run at the same time, or can't be shown to. The line of the fault, and what it says.
     Refused(String, Refusal),
+    /// Nothing but an archive that two profiles share keeps the profiles from running at the same time. Its line, and what it says.
+    SameArchive(String, Refusal),
     /// The profiles may run at the same time.
     Verdict(Verdict),
     /// What clashes in the set, or its rounds.
@@ -48,14 +50,14 @@ pub enum Report<'a> {
 
 impl Report<'_> {
     /// The exit status: 0 if the set is safe, also with lines that were found, if all of it is in rounds, for both answers to
-    /// `reach` and for a bundle; 1 for a refusal, also with such lines, for what clashes, and for rounds that leave a profile out or rest on a goal that was too large; 2 for a fault; 3 if
+    /// `reach` and for a bundle; 1 for a refusal, also with such lines, for a shared archive, for what clashes, and for rounds that leave a profile out or rest on a goal that was too large; 2 for a fault; 3 if
     /// jobs weren't run or a job was stopped.
     pub fn status(&self) -> u8
         ensures { result ≡ report.status_of self.now }
     {
         match self {
             Report::Verdict(_) | Report::Imported(_) => 0,
-            Report::Refused(..) => 1,
+            Report::Refused(..) | Report::SameArchive(..) => 1,
             Report::Faulty(_)
             | Report::NoState
             | Report::NotImported
@@ -90,6 +92,9 @@ impl Report<'_> {
             Report::Reach(answer) => answer.into_answer(alloc),
             Report::NoState => Answer::of_line(alloc, "fault: no state\n", Told::NoState),
             Report::Refused(line, refusal) => {
+                Answer::of_bytes(alloc, line.into_bytes(), Told::Refused(refusal))
+            }
+            Report::SameArchive(line, refusal) => {
                 Answer::of_bytes(alloc, line.into_bytes(), Told::Refused(refusal))
             }
             Report::Verdict(verdict) => verdict.into_answer(alloc),

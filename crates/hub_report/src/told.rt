@@ -121,6 +121,13 @@ pub enum Refusal {
     TooManyCharacters,
     /// A profile's paths and patterns have too many beginnings.
     TooManySpots,
+    /// Two profiles share an archive, which two runs of Unison at once would spoil, whatever paths they reach.
+    SameArchive {
+        /// The number of the first profile.
+        first: usize,
+        /// The number of the second one.
+        second: usize,
+    },
     /// A goal has too many stages to be searched.
     TooLarge,
     /// The certificates don't show that the set is safe.
@@ -158,6 +165,14 @@ impl Refusal {
             CheckFault::AlphabetFault(AutomatonFault::TooManySpots) => Refusal::TooManySpots,
             _ => Refusal::BadCertificates,
         })
+    }
+
+    /// That two profiles of these numbers share an archive.
+    pub fn of_archive(numbers: (usize, usize)) -> Refusal {
+        Refusal::SameArchive {
+            first: numbers.0,
+            second: numbers.1,
+        }
     }
 }
 

@@ -25,11 +25,11 @@ use Rattle.hub_bundle.specs.declared.input.InputFault.TheVariants.{TurnsSpent}
 use Rattle.hub_serve.specs.Reads.{Reads}
 use Rattle.hub_serve.specs.Mended.{is_mend}
 use Rattle.hub_serve.specs.Rounds.{BeginsAsClash}
-use Rattle.hub_serve.specs.Shown.{IsWholeUnlessFailed, SpellsClashes, SpellsGraph, SpellsReach, SpellsRounds, SpellsRoundsRun}
+use Rattle.hub_serve.specs.Shown.{IsWholeUnlessFailed, SpellsArchive, SpellsClashes, SpellsGraph, SpellsReach, SpellsRounds, SpellsRoundsRun}
 use Rattle.hub_serve.specs.Told.{Holds}
 use Rattle.hub_serve.specs.Serves.{ServesInFull, Answers, AnswersNothing, WritesText}
 use Rattle.hub_serve.specs.Shown.{ShowsImport, ShowsMend, TellsSafe, SpellsUnsafe, SpellsVerified}
-use Rattle.hub_serve.proofs.FirstLines.{only_safe, only_clashes, only_graph, only_rounds, only_verified, only_overlaps, only_breaches, only_reached, only_not_reached}
+use Rattle.hub_serve.proofs.FirstLines.{only_safe, only_archive, only_clashes, only_graph, only_rounds, only_verified, only_overlaps, only_breaches, only_reached, only_not_reached}
 use Rattle.hub_serve.proofs.Imports.{only_import}
 use Rattle.hub_serve.proofs.Mending.{only_mended}
 use Rattle.hub_serve.proofs.InUnison.{unreached-in_unison}
@@ -61,6 +61,11 @@ module _ (request : Request) (remaining old new : Option (List ℕ)) (reads : Re
   verified-written : (text : List ℕ) → is_mend request ≡ false → Answers request remaining old new reads write_failed status → remaining ≡ Some bytes → old ≡ Some before
       → new ≡ Some (before ++ (codes "verified\n" ++ text)) → SpellsVerified (Some request) bytes
   verified-written text o a e f g = only_verified request bytes a.report a.text a.writes.written _ o a.is_text (appended old new before _ _ a.writes.appends f g) (held a e)
+
+  archive-written : (text : List ℕ) → is_mend request ≡ false → Answers request remaining old new reads write_failed status → remaining ≡ Some bytes → old ≡ Some before
+      → new ≡ Some (before ++ (codes "same archive: " ++ text)) → SpellsArchive (Some request) bytes (codes "same archive: " ++ text) write_failed status
+  archive-written text o a e f g =
+      only_archive request bytes a.report a.text text write_failed status o a.is_text (answer-written (codes "same archive: " ++ text) a f g) (held a e)
 
   overlap-written : OverlapsShown → (text : List ℕ) → is_mend request ≡ false → Answers request remaining old new reads write_failed status → remaining ≡ Some bytes → old ≡ Some before
       → new ≡ Some (before ++ (codes "overlap: " ++ text)) → SpellsUnsafe (Some request) bytes
@@ -176,6 +181,7 @@ serves-answer overlaps breaches request remaining old new reads write_failed sta
   answer = λ other is. subst (λ r. Answers r remaining old new reads write_failed status) (same_Some request other is) a;
   safe = λ bytes text o w. safe-written request remaining old new reads write_failed status bytes w.before text o a w.input w.kept w.written;
   verified = λ bytes text o w. verified-written request remaining old new reads write_failed status bytes w.before text o a w.input w.kept w.written;
+  same_archive = λ bytes text o w. archive-written request remaining old new reads write_failed status bytes w.before text o a w.input w.kept w.written;
   overlap = λ bytes text o w. overlap-written request remaining old new reads write_failed status bytes w.before overlaps text o a w.input w.kept w.written;
   breach = λ bytes text o w. breach-written request remaining old new reads write_failed status bytes w.before breaches text o a w.input w.kept w.written;
   rounds = λ bytes text o w. rounds-written request remaining old new reads write_failed status bytes w.before text o a w.input w.kept w.written;
@@ -196,6 +202,7 @@ serves-nothing remaining old new reads write_failed status a = record {
   answer = λ request is. absurd (none-some request is);
   safe = λ bytes text o w. absurd (nothing-written old new status w.before _ 115 a refl w.kept w.written);
   verified = λ bytes text o w. absurd (nothing-written old new status w.before _ 118 a refl w.kept w.written);
+  same_archive = λ bytes text o w. absurd (nothing-written old new status w.before _ 115 a refl w.kept w.written);
   overlap = λ bytes text o w. absurd (nothing-written old new status w.before _ 111 a refl w.kept w.written);
   breach = λ bytes text o w. absurd (nothing-written old new status w.before _ 98 a refl w.kept w.written);
   rounds = λ bytes text o w. absurd (nothing-written old new status w.before _ 114 a refl w.kept w.written);

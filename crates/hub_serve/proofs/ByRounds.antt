@@ -33,7 +33,9 @@ use Rattle.hub_report.specs.declared.run.Run.{Run}
 use Rattle.hub_report.specs.declared.rounds_run.RoundsRun.{RoundsRun}
 use Rattle.hub_job.specs.declared.run_fault.RunFault.{RunFault}
 use Rattle.hub_job.specs.declared.run_fault.RunFault.TheVariants as error
-use Rattle.hub_serve.specs.Rounds.{HasUnverifiedRound, IsUncut}
+use Rattle.hub_cli.specs.declared.words.Reading.{Reading}
+use Rattle.hub_cli.specs.declared.words.Reading.TheVariants.{Plain}
+use Rattle.hub_serve.specs.Rounds.{AreLinesAs, HasUnverifiedRound, IsUncut}
 use Rattle.hub_serve.specs.Runs.{ComesOf, IsRunOn, PreventsRun}
 use Rattle.hub_serve.proofs.Prevented.{prevents}
 use Rattle.hub_serve.specs.ByRounds.{AllFinished, AreRunFrom, Ends, HaveRun, IsAdded, IsBegun, RefusesWorkers}
@@ -264,15 +266,19 @@ first-alone M es e all disproved f =
     let at : slice_get es n ≡ Some e = sym (find_at leaves_out es) ∙ f in
     record { faults = es; all = all; first = f; disproved = disproved e (n, slice_get_within es n e at, get_or_from_slice_get es n e e at) }
 
+-- Read plainly, no profiles share an archive of Unison.
+pub plain-lines : (M : Members) (es : List CheckFault) → AreLines M es → AreLinesAs Plain M es
+plain-lines M es h = record { found = es; all = h; with_archives = sym (append-nil es) }
+
 -- A round is refused, and not for want of memory.
 pub unverified-run : (M : Members) (es : List CheckFault) (rounds : Rounds) (e : CheckFault) → AreFaults M es → AreRounds M es rounds
-    → RefusesOneOf rounds.rules rounds.rounds e → is_memory e ≡ false → HasUnverifiedRound M
+    → RefusesOneOf rounds.rules rounds.rounds e → is_memory e ≡ false → HasUnverifiedRound Plain M
 unverified-run M es rounds e all cut h kept =
     let w = at-place rounds.rounds h.0 h.1 in
     let refused = subst (λ (Rs : List Rule). RefusesRound (round_set Rs h.0) e) cut.rules h.2 in
-    record { lines = es; all = inl all; round = w.0; refused = refused-round M es rounds w.0 h.0 cut w.2 (e, refused, kept) }
+    record { lines = es; all = plain-lines M es (inl all); round = w.0; refused = refused-round M es rounds w.0 h.0 cut w.2 (e, refused, kept) }
 
 -- And so where a set isn't cut into rounds.
-pub uncut : (M : Members) (es : List CheckFault) (e : RoundsFault) → AreLines M es → IsRoundsFault M es e → IsUncut M e
-uncut M es (rounds_fault.NotVerified k) all h = record { lines = es; all = all; round = k; refused = h }
-uncut M es rounds_fault.OutOfMemory all h = tt
+pub uncut : (reading : Reading) (M : Members) (es : List CheckFault) (e : RoundsFault) → AreLinesAs reading M es → IsRoundsFault M es e → IsUncut reading M e
+uncut reading M es (rounds_fault.NotVerified k) all h = record { lines = es; all = all; round = k; refused = h }
+uncut reading M es rounds_fault.OutOfMemory all h = tt

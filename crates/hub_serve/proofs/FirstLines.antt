@@ -1,5 +1,5 @@
 -- What is true of the input if what is written begins with these letters.
-use Rattle.std.proofs.Common.{◌≡◌, ◌≢◌, ◌∙◌, ◌⊎◌, inl, inr, ℕ, Bool, true, false, cond, List, [], ◌∷◌, ◌++◌, take, Some, codes, refl, sym, ap, subst, arith}
+use Rattle.std.proofs.Common.{◌≡◌, ◌≢◌, ◌∙◌, ◌⊎◌, inl, inr, ℕ, Bool, true, false, cond, List, [], ◌∷◌, ◌++◌, take, String, Global, append-nil, Some, codes, refl, sym, ap, subst, arith}
 use Rattle.std.specs.Prelude.{⊤, string_bytes}
 use Rattle.std.proofs.lemmas.Bool.{false≢true}
 use Rattle.std.proofs.lemmas.List.{append_cancel_left}
@@ -32,7 +32,7 @@ use Rattle.hub_report.specs.Refusal.{refusal_line}
 use Rattle.hub_report.specs.Jobs.{lines_of_jobs}
 use Rattle.hub_report.specs.Run.{error_line}
 use Rattle.hub_report.specs.laws.Starts.{HoldsOfStarts, Start, SafeStart, VerifiedStart, OverlapStart, BreachStart, TooLargeStart}
-use Rattle.hub_report.specs.laws.Starts.{RoundsStart, GraphStart, ReachedStart, NotReachedStart, OtherStart, start, begins-taken}
+use Rattle.hub_report.specs.laws.Starts.{RoundsStart, GraphStart, ReachedStart, NotReachedStart, ArchiveStart, OtherStart, start, begins-taken}
 use Rattle.hub_report.specs.laws.Starts.{lines-start, refusal-start}
 use Rattle.hub_cli.specs.declared.words.Question.{Question}
 use Rattle.hub_cli.specs.declared.words.Question.TheVariants as ask
@@ -40,23 +40,43 @@ use Rattle.hub_cli.specs.declared.words.Reading.{Reading}
 use Rattle.hub_cli.specs.Words.{Request, about, reading_for, reading_of}
 use Rattle.hub_serve.specs.declared.task.Task.{Task}
 use Rattle.hub_serve.specs.declared.task.Task.TheVariants as task
-use Rattle.hub_serve.specs.Shown.{FollowsSafe, IsWholeUnlessFailed, ShowsClashes, ShowsGraph, ShowsRounds, ShowsRoundsRun}
-use Rattle.hub_serve.specs.Told.{IsRefusedFor, IsTrueOf, Holds}
+use Rattle.hub_state.specs.State.{State}
+use Rattle.hub_report.specs.Archive.{archive_line, archive_lines}
+use Rattle.hub_report.specs.Rounds.{clash_lines}
+use Rattle.hub_report.specs.declared.told.Refusal.{Refusal}
+use Rattle.hub_serve.specs.Unison.{archives_as}
+use Rattle.hub_serve.specs.Shown.{SpellsArchive}
+use Rattle.hub_serve.specs.Shown.{FollowsSafe, IsWholeUnlessFailed, ShowsArchive, ShowsClashes, ShowsGraph, ShowsRounds, ShowsRoundsRun}
+use Rattle.hub_serve.specs.Told.{IsRefusedFor, IsTrueOf, Holds, SharesArchive, archives_in, may_say_safe}
 use Rattle.hub_serve.specs.Shown.{SpellsClashes, SpellsGraph, SpellsRounds, SpellsRoundsRun, TellsSafe, SpellsUnsafe, SpellsVerified}
 use Rattle.hub_serve.specs.Rounds.{BeginsAsClash, DrawsClashes, ListsClashes, WritesRounds}
 use Rattle.hub_serve.specs.Runs.{HasRunAs, IsBelow, IsPrevented}
 use Rattle.hub_serve.specs.Mended.{is_mend}
-use Rattle.hub_serve.specs.Task.{AsksTask}
+use Rattle.hub_serve.specs.Task.{AsksTask, reading_in}
 use Rattle.hub_serve.specs.Unison.{SpellsAs}
 use Rattle.hub_serve.proofs.BundleStart.{bundle-start}
-use Rattle.hub_serve.proofs.InUnison.{rounds-in_unison, safe-in_unison}
-use Rattle.hub_serve.proofs.Asking.{asks, unrefused}
+use Rattle.hub_serve.proofs.InUnison.{archive-in_unison, rounds-in_unison, safe-in_unison}
+use Rattle.hub_serve.proofs.Asking.{asked-clashes, asks, reading-asked, reading-for-task, unrefused}
 use Rattle.hub_serve.proofs.Refused.{BreachesShown, OverlapsShown, breach-refused, overlap-refused}
 
 -- Where no jobs are to be run, nothing is below `safe`.
-check-below : (t : Task) (M : Members) → (t ≡ task.Check) ⊎ (t ≡ task.Clashes) → IsBelow t M 0 []
-check-below t M (inl is) = subst (λ u. IsBelow u M 0 []) (sym is) (refl, refl)
-check-below t M (inr is) = subst (λ u. IsBelow u M 0 []) (sym is) (refl, refl)
+check-below : (t : Task) (M : Members) → may_say_safe t ≡ true → IsBelow t M 0 []
+check-below (task.Check reading) M is = (refl, refl)
+check-below (task.Clashes reading) M is = (refl, refl)
+check-below _ M is = absurd (false≢true is)
+
+-- A run has no archives of Unison.
+run-archives : (t : Task) (M : Members) (n : ℕ) (S : State) → t ≡ task.RunJobs n S → archives_in t M ≡ []
+run-archives t M n S is = subst (λ u. archives_in u M ≡ []) (sym is) refl
+
+-- A check isn't asked for what clashes.
+is_check : Task → Bool
+is_check (task.Check reading) = true
+is_check _ = false
+
+no-check : (reading asked : Reading) (t : Task) → t ≡ task.Check reading → t ≡ task.Clashes asked → ⊥
+unfolding is_check
+no-check reading asked t is clashes = false≢true (sym (ap is_check clashes) ∙ ap is_check is)
 
 -- The status of a run: 0 if all jobs are finished, else 3.
 abbrev run_status : Bool → ℕ
@@ -105,6 +125,7 @@ Means request bytes line status RoundsStart = ShowsRounds (Some request) bytes l
 Means request bytes line status GraphStart = ShowsGraph (Some request) bytes line status
 Means request bytes line status ReachedStart = IsTrueOf request bytes (answer.Reach Reached)
 Means request bytes line status NotReachedStart = IsTrueOf request bytes (answer.Reach NotReached)
+Means request bytes line status ArchiveStart = ShowsArchive (Some request) bytes line status × AreClashes request bytes line status
 Means request bytes line status OtherStart = ⊤
 
 -- What a bundle spells as it was asked for, it spells as a request that is the same asks for.
@@ -141,14 +162,31 @@ refusal-means request bytes line status c t e spelled asked refused =
     })
 
 -- of that of the lines of what clashes,
-clashes-mean : (request : Request) (bytes line : List ℕ) (c : BundleContents) → SpellsAs (reading_for request) bytes c → ListsClashes (members c) line
+clashes-mean : (request : Request) (bytes line : List ℕ) (c : BundleContents) → SpellsAs (reading_for request) bytes c → ListsClashes (reading_for request) (members c) line
     → Means request bytes line 1 (start line)
 clashes-mean request bytes line c spelled h =
     subst (λ t. Means request bytes line 1 (start t)) (sym h.text_is)
-    (lines-start (Means request bytes line 1) (members c) h.lines tt (λ n e at. each e (h.disproved e (n, slice_get_within h.lines n e at, get_or_from_slice_get h.lines n e e at))))
+    (lines-start (Means request bytes line 1) (members c) h.lines (archive_lines c.profiles archives) (λ none. behind archives refl none) (λ n e at. each e (h.disproved e (n, slice_get_within h.lines n e at, get_or_from_slice_get h.lines n e e at))))
   where
+    archives : List (ℕ × ℕ)
+    archives = archives_as (reading_for request) c.profiles
+
     says : AreClashes request bytes line 1
-    says reading asks = record { contents = c; spelled = spelled-for request (about (ask.Clashes reading)) bytes c asks spelled; listed = h; status_is = refl }
+    says reading asks = record {
+      contents = c;
+      spelled = spelled-for request (about (ask.Clashes reading)) bytes c asks spelled;
+      listed = subst (λ r. ListsClashes (reading_for r) (members c) line) asks h;
+      status_is = refl;
+    }
+
+    -- Behind lines that are empty, the text is that of the archives.
+    behind : (own : List (ℕ × ℕ)) → archives ≡ own → clash_lines (members c) h.lines ≡ [] → Means request bytes line 1 (start (archive_lines c.profiles archives))
+    behind [] is none = subst (λ ns. Means request bytes line 1 (start (archive_lines c.profiles ns))) (sym is) tt
+    behind (numbers ∷ others) is none =
+        let text : line ≡ archive_line c.profiles numbers ++ archive_lines c.profiles others =
+        h.text_is ∙ (ap (λ t. t ++ archive_lines c.profiles archives) none ∙ ap (archive_lines c.profiles) is) in
+        subst (λ ns. Means request bytes line 1 (start (archive_lines c.profiles ns))) (sym is)
+        (archive-in_unison request bytes c spelled numbers others is line (archive_lines c.profiles others) text, says)
 
     each : (e : CheckFault) → Disproves (members c) e → HoldsOfStarts (Means request bytes line 1) e
     each e d = record {
@@ -168,8 +206,8 @@ reach-means request bytes (BadPath f) line l h = subst (λ t. Means request byte
 
 -- of that of `safe` with what is to follow it,
 safe-means : (request : Request) (bytes line : List ℕ) (status : ℕ) (c : BundleContents) (t : Task) (below : List ℕ) → line ≡ codes "safe\n" ++ below → SpellsAs (reading_for request) bytes c → AsksTask request c.state t
-    → IsSafeSet (members c) → IsBelow t (members c) status below → Means request bytes line status (start line)
-safe-means request bytes line status c t below l spelled asked safe below_is =
+    → IsSafeSet (members c) → archives_in t (members c) ≡ [] → IsBelow t (members c) status below → Means request bytes line status (start line)
+safe-means request bytes line status c t below l spelled asked safe none below_is =
     subst (λ text. Means request bytes line status (start text)) (sym l) (
       below,
       l,
@@ -181,7 +219,8 @@ safe-means request bytes line status c t below l spelled asked safe below_is =
         to_do = t;
         to_do_is = asked.task_is;
         safe = safe;
-        in_unison = safe-in_unison (reading_of asked.of_set) bytes c (spelled-for request (about asked.of_set) bytes c asked.asked spelled) safe;
+        in_unison = safe-in_unison (reading_of asked.of_set) bytes c (spelled-for request (about asked.of_set) bytes c asked.asked spelled) safe
+            (subst (λ reading. archives_as reading c.profiles ≡ []) (reading-asked asked.of_set c.state t asked.task_is) none);
         below = below_is;
       },
     )
@@ -190,7 +229,7 @@ safe-means request bytes line status c t below l spelled asked safe below_is =
 verdict-means : (request : Request) (bytes : List ℕ) (v : Verdict) (line : List ℕ) → line ≡ verdict.text_of v → IsTrueOf request bytes (answer.Verdict v)
     → Means request bytes line 0 (start line)
 verdict-means request bytes Safe line l h =
-    safe-means request bytes line 0 h.contents h.told.to_do [] l h.spelled h.told.asked h.told.told.1 (check-below h.told.to_do (members h.contents) h.told.told.0)
+    safe-means request bytes line 0 h.contents h.told.to_do [] l h.spelled h.told.asked h.told.told.1 h.told.told.2 (check-below h.told.to_do (members h.contents) h.told.told.0)
 verdict-means request bytes Verified line l h =
     let asked = asks request h.contents.state task.Verify (subst (AsksTask request h.contents.state) h.told.told.0 h.told.asked) in
     subst (λ t. Means request bytes line 0 (start t)) (sym l) (record {
@@ -207,31 +246,40 @@ verdict-means request bytes (Certified text) line l h =
 clashes-answer-means : (request : Request) (bytes : List ℕ) (a : ClashesAnswer) (line : List ℕ) → line ≡ clashes.text_of a
     → IsTrueOf request bytes (answer.Clashes a) → Means request bytes line (clashes.status_of a) (start line)
 clashes-answer-means request bytes (Lines text first) line l h =
-    clashes-mean request bytes line h.contents h.spelled (subst (ListsClashes (members h.contents)) (sym l) h.told.told.1)
+    let listed = subst (λ reading. ListsClashes reading (members h.contents) (string_bytes text)) (reading-for-task request h.contents.state h.told.to_do h.told.asked) h.told.told.1 in
+    clashes-mean request bytes line h.contents h.spelled (subst (ListsClashes (reading_for request) (members h.contents)) (sym l) listed)
 clashes-answer-means request bytes (Graph g) line l h =
-    let drawn = subst (λ t. DrawsClashes (members h.contents) t g.safe) (sym l) h.told.told.1 in
-    let asked = asks request h.contents.state task.Graph (subst (AsksTask request h.contents.state) h.told.told.0 h.told.asked) in
+    let reading = reading_in h.told.to_do in
+    let same : reading ≡ reading_for request = reading-for-task request h.contents.state h.told.to_do h.told.asked in
+    let drawn : DrawsClashes (reading_for request) (members h.contents) line g.safe =
+    subst (λ t. DrawsClashes (reading_for request) (members h.contents) t g.safe) (sym l)
+    (subst (λ r. DrawsClashes r (members h.contents) (string_bytes g.text) g.safe) same h.told.told.1) in
+    let asked = asks request h.contents.state (task.Graph reading) (subst (AsksTask request h.contents.state) h.told.told.0 h.told.asked) in
     subst (λ t. Means request bytes line (cond g.safe 0 1) (start t)) (sym drawn.text_is) (record {
       reading = reading_for request;
-      is_asked = ap Some asked;
+      is_asked = ap Some (asked ∙ ap (λ r. about (ask.Graph r)) same);
       contents = h.contents;
       spelled = h.spelled;
       well = g.safe;
       drawn = drawn;
-      in_unison = λ u w. safe-in_unison (reading_for request) bytes h.contents h.spelled (drawn.sure w) u;
+      in_unison = λ u w. safe-in_unison (reading_for request) bytes h.contents h.spelled (drawn.sure w) (drawn.safe_is.0 w).1 u;
       status_is = refl;
     })
 clashes-answer-means request bytes (Cut c) line l h =
-    let cut = subst (λ t. WritesRounds (members h.contents) t c.decided) (sym l) h.told.told.1 in
-    let asked = asks request h.contents.state task.Rounds (subst (AsksTask request h.contents.state) h.told.told.0 h.told.asked) in
+    let reading = reading_in h.told.to_do in
+    let same : reading ≡ reading_for request = reading-for-task request h.contents.state h.told.to_do h.told.asked in
+    let cut : WritesRounds (reading_for request) (members h.contents) line c.decided =
+    subst (λ t. WritesRounds (reading_for request) (members h.contents) t c.decided) (sym l)
+    (subst (λ r. WritesRounds r (members h.contents) (string_bytes c.text) c.decided) same h.told.told.1) in
+    let asked = asks request h.contents.state (task.Rounds reading) (subst (AsksTask request h.contents.state) h.told.told.0 h.told.asked) in
     subst (λ t. Means request bytes line (cond c.decided 0 1) (start t)) (sym cut.text_is) (inl (record {
       reading = reading_for request;
-      is_asked = ap Some asked;
+      is_asked = ap Some (asked ∙ ap (λ r. about (ask.Rounds r)) same);
       contents = h.contents;
       spelled = h.spelled;
       well = c.decided;
       cut = cut;
-      in_unison = rounds-in_unison (reading_for request) bytes h.contents h.spelled cut.lines cut.rounds cut.cut;
+      in_unison = rounds-in_unison (reading_for request) bytes h.contents h.spelled cut.lines cut.rounds cut.all cut.cut;
       status_is = refl;
     }))
 
@@ -240,7 +288,7 @@ run-means : (request : Request) (bytes : List ℕ) (a : RunAnswer) (line : List 
     → Means request bytes line (runs.status_of a) (start line)
 run-means request bytes (Ran r) line l h =
     safe-means request bytes line (run_status r.finished) h.contents h.told.to_do (string_bytes r.lines ++ state_text r.state) l h.spelled h.told.asked h.told.told.safe
-    (ran-below h.told.to_do (members h.contents) r h.told.told)
+    (run-archives h.told.to_do (members h.contents) h.told.told.workers h.told.told.state h.told.told.task_is) (ran-below h.told.to_do (members h.contents) r h.told.told)
 run-means request bytes (RanByRounds r) line l h =
     let t = h.told.told in
     let asked = asks request h.contents.state (task.RunByRounds t.workers t.state) (subst (AsksTask request h.contents.state) t.task_is h.told.asked) in
@@ -257,7 +305,20 @@ run-means request bytes (RanByRounds r) line l h =
       status_is = refl;
     }))
 run-means request bytes (NotRun f) line l h =
-    safe-means request bytes line 3 h.contents h.told.to_do (error_line f) l h.spelled h.told.asked h.told.told.safe (error-below h.told.to_do (members h.contents) f h.told.told)
+    safe-means request bytes line 3 h.contents h.told.to_do (error_line f) l h.spelled h.told.asked h.told.told.safe
+    (run-archives h.told.to_do (members h.contents) h.told.told.workers h.told.told.state h.told.told.task_is) (error-below h.told.to_do (members h.contents) f h.told.told)
+
+-- of that of the answer which archive is shared,
+archive-means : (request : Request) (bytes : List ℕ) (text : String Global) (refusal : Refusal) (line : List ℕ) → line ≡ string_bytes text → IsTrueOf request bytes (answer.SameArchive text refusal)
+    → Means request bytes line 1 (start line)
+archive-means request bytes text refusal line l h =
+    let c = h.contents in
+    let shared = subst (λ reading. SharesArchive reading (members c) (string_bytes text)) (reading-for-task request c.state h.told.to_do h.told.asked) h.told.told.1 in
+    let line_is : line ≡ archive_line c.profiles shared.numbers = l ∙ shared.line_is in
+    subst (λ t. Means request bytes line 1 (start t)) (sym line_is) (
+      archive-in_unison request bytes c h.spelled shared.numbers shared.others shared.first line [] (line_is ∙ sym (append-nil (archive_line c.profiles shared.numbers))),
+      λ reading asks. absurd (no-check (reading_in h.told.to_do) reading h.told.to_do h.told.told.0 (asked-clashes reading request c.state h.told.to_do h.told.asked asks)),
+    )
 
 -- and of the start of the text of every answer.
 text-means : (request : Request) (bytes : List ℕ) (r : Report) (line : List ℕ) → is_mend request ≡ false → line ≡ text_of r → Holds request bytes r
@@ -269,6 +330,7 @@ text-means request bytes (answer.Run a) line o l h = run-means request bytes a l
 text-means request bytes (answer.Refused text refusal) line o l h =
     subst (λ t. Means request bytes line 1 (start t)) (sym (l ∙ h.told.told.1))
     (refusal-means request bytes line 1 h.contents h.told.to_do h.told.reason h.spelled h.told.asked h.told.refused)
+text-means request bytes (answer.SameArchive text refusal) line o l h = archive-means request bytes text refusal line l h
 text-means request bytes (answer.Imported text) line o l h =
     subst (λ t. Means request bytes line 0 t) (sym (ap start l ∙ bundle-start text.items _ h.told.written)) tt
 text-means request bytes (answer.Mended m) line o l h = absurd (false≢true (sym o ∙ ap is_mend h.asked))
@@ -319,6 +381,14 @@ only_graph request bytes r line s failed status other l wrote h =
     let front = begins-taken (codes "graph clashes {") line s wrote.written (sym wrote.text_is) in
     record { full = line; full_status = status_of r; is_so = means request bytes r line GraphStart other l (ap start front.whole) h; told = wrote }
 
+-- only that of an archive that is shared with `sam`,
+pub only_archive : (request : Request) (bytes : List ℕ) (r : Report) (line s : List ℕ) (failed : Bool) (status : ℕ) → is_mend request ≡ false → line ≡ text_of r
+    → IsWholeUnlessFailed line (status_of r) failed (codes "same archive: " ++ s) status → Holds request bytes r
+    → SpellsArchive (Some request) bytes (codes "same archive: " ++ s) failed status
+only_archive request bytes r line s failed status other l wrote h =
+    let front = begins-taken (codes "same archive: ") line s wrote.written (sym wrote.text_is) in
+    record { full = line; full_status = status_of r; is_so = (means request bytes r line ArchiveStart other l (ap start front.whole) h).0; told = wrote }
+
 -- that of what clashes as a line of it, if the words ask for it,
 pub only_clashes : (reading : Reading) (request : Request) (bytes : List ℕ) (r : Report) (line text : List ℕ) (failed : Bool) (status : ℕ) → request ≡ about (ask.Clashes reading) → line ≡ text_of r
     → IsWholeUnlessFailed line (status_of r) failed text status → Holds request bytes r → BeginsAsClash text → SpellsClashes reading bytes text failed status
@@ -331,10 +401,11 @@ only_clashes reading request bytes r line text failed status is l wrote h b =
     other : is_mend request ≡ false
     other = ap is_mend is
 
-    go : (text ≡ codes "overlap: " ++ rest) ⊎ (text ≡ codes "breach: " ++ rest) ⊎ (text ≡ codes "too large: " ++ rest) → ShowsClashes reading bytes line (status_of r)
+    go : (text ≡ codes "overlap: " ++ rest) ⊎ (text ≡ codes "breach: " ++ rest) ⊎ (text ≡ codes "too large: " ++ rest) ⊎ (text ≡ codes "same archive: " ++ rest) → ShowsClashes reading bytes line (status_of r)
     go (inl o) = (means request bytes r line OverlapStart other l (ap start (begins-taken (codes "overlap: ") line rest wrote.written (sym wrote.text_is ∙ o)).whole) h).1 reading is
     go (inr (inl o)) = (means request bytes r line BreachStart other l (ap start (begins-taken (codes "breach: ") line rest wrote.written (sym wrote.text_is ∙ o)).whole) h).1 reading is
-    go (inr (inr o)) = means request bytes r line TooLargeStart other l (ap start (begins-taken (codes "too large: ") line rest wrote.written (sym wrote.text_is ∙ o)).whole) h reading is
+    go (inr (inr (inl o))) = means request bytes r line TooLargeStart other l (ap start (begins-taken (codes "too large: ") line rest wrote.written (sym wrote.text_is ∙ o)).whole) h reading is
+    go (inr (inr (inr o))) = (means request bytes r line ArchiveStart other l (ap start (begins-taken (codes "same archive: ") line rest wrote.written (sym wrote.text_is ∙ o)).whole) h).1 reading is
 
 -- only that of a verified one with a v,
 pub only_verified : (request : Request) (bytes : List ℕ) (r : Report) (line : List ℕ) (w : ℕ) (s : List ℕ) → is_mend request ≡ false → line ≡ text_of r → take w line ≡ 118 ∷ s → Holds request bytes r → SpellsVerified (Some request) bytes

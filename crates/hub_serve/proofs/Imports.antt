@@ -21,7 +21,7 @@ use Rattle.hub_serve.specs.Shown.{IsWholeUnlessFailed, ShowsImport}
 use Rattle.hub_serve.specs.Told.{Holds, IsToldOfReach}
 use Rattle.hub_serve.specs.Task.{AsksTask}
 use Rattle.hub_serve.specs.Unison.{SpellsAs}
-use Rattle.hub_serve.proofs.InUnison.{safe-in_unison}
+use Rattle.hub_serve.proofs.InUnison.{apart-in_unison}
 
 abbrev is_import : Request → Bool
 is_import (about q) = false
@@ -53,6 +53,7 @@ shown request bytes text (answer.Faulty f) is l z h = absurd (omega (arith, z))
 shown request bytes text (answer.Reach a) is l z h = absurd (no-reach request _ a is h.told)
 shown request bytes text answer.NoState is l z h = absurd (omega (arith, z))
 shown request bytes text (answer.Refused t f) is l z h = absurd (omega (arith, z))
+shown request bytes text (answer.SameArchive t f) is l z h = absurd (omega (arith, z))
 shown request bytes text (answer.Verdict v) is l z h = absurd (no-task request _ _ is h.told.asked)
 shown request bytes text (answer.Clashes a) is l z h = absurd (no-task request _ _ is h.told.asked)
 shown request bytes text (answer.Run a) is l z h = absurd (no-task request _ _ is h.told.asked)
@@ -62,7 +63,7 @@ shown request bytes text (answer.Imported t) is l z h =
       contents = h.contents;
       spelled = spelled;
       written = subst (λ x. Spells x (contents_of h.contents.profiles h.contents.rules)) (sym l) h.told.written;
-      in_unison = λ safe. safe-in_unison Unison bytes h.contents spelled safe refl;
+      in_unison = λ safe apart. apart-in_unison bytes h.contents spelled safe apart;
     }
 shown request bytes text answer.NotImported is l z h = absurd (omega (arith, z))
 shown request bytes text (answer.Mended m) is l z h = absurd (other request _ is h.asked refl)

@@ -1,5 +1,7 @@
 pub mod Asking
 pub mod Refused
+pub mod SharedPairs
+pub mod WrittenSections
 pub mod InUnison
 pub mod FirstLines
 pub mod Answered

@@ -47,16 +47,20 @@ module _ (reading : Reading) (as_bundle : Bool) where
   found request bytes text m status is l e h =
       let asks : mended h.reading h.as_bundle ≡ mended reading as_bundle = sym h.asked ∙ is in
       let mends : Mends reading bytes h.pieces h.new = subst (λ d. Mends d bytes h.pieces h.new) (same-reading h.reading h.as_bundle asks) h.mends in
+      let said : SaysOf reading m.safe h.new (line_count h.pieces) h.line =
+      subst (λ d. SaysOf d m.safe h.new (line_count h.pieces) h.line) (same-reading h.reading h.as_bundle asks) h.said in
       record {
         pieces = h.pieces;
         new = h.new;
         mends = mends;
         safe = m.safe;
         line = h.line;
-        said = h.said;
+        said = said;
         text_is = l ∙ h.text_is ∙ ap (λ b. mend_text b h.pieces h.line) (same-form h.reading h.as_bundle asks);
         status_is = e;
-        in_unison = λ u s. safe-in_unison reading (mended_text h.pieces) h.new mends.with_lines (subst (λ b. SaysOf b h.new (line_count h.pieces) h.line) s h.said).0 u;
+        in_unison = λ u s.
+            let safe = subst (λ b. SaysOf reading b h.new (line_count h.pieces) h.line) s said in
+            safe-in_unison reading (mended_text h.pieces) h.new mends.with_lines safe.0 safe.1 u;
       }
 
   shown : (request : Request) (bytes text : List ℕ) (r : Report) (status : ℕ) → request ≡ mended reading as_bundle → text ≡ text_of r → status ≡ status_of r → status ≤ 1
@@ -65,6 +69,7 @@ module _ (reading : Reading) (as_bundle : Bool) where
   shown request bytes text (answer.Reach a) status is l e z h = absurd (no-reach request _ a is h.told)
   shown request bytes text answer.NoState status is l e z h = absurd (omega (arith, e, z))
   shown request bytes text (answer.Refused t f) status is l e z h = absurd (no-task request _ _ is h.told.asked)
+  shown request bytes text (answer.SameArchive t f) status is l e z h = absurd (no-task request _ _ is h.told.asked)
   shown request bytes text (answer.Verdict v) status is l e z h = absurd (no-task request _ _ is h.told.asked)
   shown request bytes text (answer.Clashes a) status is l e z h = absurd (no-task request _ _ is h.told.asked)
   shown request bytes text (answer.Run a) status is l e z h = absurd (no-task request _ _ is h.told.asked)

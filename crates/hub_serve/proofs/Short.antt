@@ -31,8 +31,8 @@ may-be (ask.RunByRounds n) (Some S) t M status below is b =
     absurd (subst (λ u. IsBelow u M status below) (sym (same_Some (task.RunByRounds n S) t is)) b)
 may-be ask.Certify state t M status below is b = absurd (subst (λ u. IsBelow u M status below) (sym (same_Some task.Certify t is)) b)
 may-be ask.Verify state t M status below is b = absurd (subst (λ u. IsBelow u M status below) (sym (same_Some task.Verify t is)) b)
-may-be (ask.Graph reading) state t M status below is b = absurd (subst (λ u. IsBelow u M status below) (sym (same_Some task.Graph t is)) b)
-may-be (ask.Rounds reading) state t M status below is b = absurd (subst (λ u. IsBelow u M status below) (sym (same_Some task.Rounds t is)) b)
+may-be (ask.Graph reading) state t M status below is b = absurd (subst (λ u. IsBelow u M status below) (sym (same_Some (task.Graph reading) t is)) b)
+may-be (ask.Rounds reading) state t M status below is b = absurd (subst (λ u. IsBelow u M status below) (sym (same_Some (task.Rounds reading) t is)) b)
 
 safe-in : (asked : Option Request) (bytes text : List ℕ) (failed : Bool) (status : ℕ) → TellsSafe asked bytes text failed status → SpellsSafe asked bytes
 safe-in asked bytes text failed status told =
@@ -63,6 +63,7 @@ in-short asked remaining old new reads failed status all = record {
   nothing = all.nothing;
   safe = λ bytes text no w. safe-in asked bytes text failed status (all.safe bytes text no w);
   verified = all.verified;
+  same_archive = all.same_archive;
   overlap = all.overlap;
   breach = all.breach;
   rounds = λ reading bytes text is w.

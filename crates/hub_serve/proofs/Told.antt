@@ -1,8 +1,8 @@
 -- What a refusal and a text that is no path are answered with.
-use Rattle.std.proofs.Common.{◌≡◌, ◌⊎◌, ◌==◌, ◌∙◌, ◌∷◌, inl, inr, ℕ, Bool, false, true, List, [], length, IfSome, None, Option, Some, refl, sym, ap, subst}
-use Rattle.std.specs.Prelude.{Contains, IfErr, IfOk, IsTrue, Result, Ok, Err}
-use Rattle.std.proofs.lemmas.Bool.{false≢true}
-use Rattle.std.proofs.lemmas.Option.{none-some}
+use Rattle.std.proofs.Common.{◌≡◌, ◌⊎◌, ◌==◌, ◌&&◌, ◌∙◌, ◌∷◌, inl, inr, ℕ, Bool, false, true, List, [], length, IfSome, None, Option, Some, refl, sym, ap, subst}
+use Rattle.std.specs.Prelude.{Contains, IfErr, IfOk, IsTrue, Result, Ok, Err, slice_get}
+use Rattle.std.proofs.lemmas.Bool.{and_from, and_parts, false≢true}
+use Rattle.std.proofs.lemmas.Option.{none-some, same_Some}
 use Rattle.hub_path.specs.declared.fault.PathFault.{PathFault}
 use Rattle.hub_path.specs.declared.fault.PathFault.TheVariants as path
 use Rattle.hub_cert.specs.Goals.{is_goal}
@@ -29,18 +29,20 @@ use Rattle.hub_bundle.specs.Sections.{Spells, members}
 use Rattle.hub_cli.specs.declared.words.Reading.{Reading}
 use Rattle.hub_cli.specs.declared.words.Reading.TheVariants.{Plain, Unison}
 use Rattle.hub_cli.specs.declared.words.Question.{Question}
-use Rattle.hub_cli.specs.Words.{Request, about, reading_for}
+use Rattle.hub_cli.specs.Words.{Request, about, reading_for, reading_of}
 use Rattle.hub_report.specs.declared.faulty_input.FaultyInput.TheVariants.{BadBundle, BadSection, Unread}
 use Rattle.hub_report.specs.declared.report.Report.{Report}
 use Rattle.hub_report.specs.declared.reach_answer.ReachAnswer.TheVariants.{BadPath}
-use Rattle.hub_report.specs.declared.report.Report.TheVariants.{Faulty, Reach, NoState, Refused, OutOfMemory}
+use Rattle.hub_report.specs.declared.report.Report.TheVariants.{Faulty, Reach, NoState, Refused, SameArchive, Verdict, OutOfMemory}
+use Rattle.hub_report.specs.declared.verdict.Verdict.TheVariants.{Safe}
 use Rattle.hub_report.specs.declared.report.Report.TheVariants.{Imported, NotImported, Mended, NotMended}
 use Rattle.hub_serve.specs.declared.task.Task.{Task}
-use Rattle.hub_report.specs.Report.{TellsRefusal, has_no_numbers}
-use Rattle.hub_serve.specs.Told.{FaultOf, HasBadPath, Holds, IsTold, IsToldOfSet, IsUnspelled, puts_apart}
+use Rattle.hub_report.specs.Report.{TellsArchive, TellsRefusal, has_no_numbers}
+use Rattle.hub_serve.specs.Told.{FaultOf, HasBadPath, Holds, IsTold, IsToldAnyway, IsToldOfSet, IsUnspelled, puts_apart}
 use Rattle.hub_serve.specs.Rounds.{DrawsClashes}
-use Rattle.hub_serve.specs.Task.{AsksTask, LacksState, task_of}
-use Rattle.hub_serve.specs.Unison.{SpellsAs, SpellsCounted, counted_as}
+use Rattle.hub_serve.specs.Task.{AsksTask, LacksState, reading_in, task_of}
+use Rattle.hub_serve.specs.Unison.{SpellsAs, SpellsCounted, archives_as, counted_as}
+use Rattle.hub_serve.proofs.Asking.{reading-asked}
 use Rattle.hub_text.specs.laws.List.{some-item}
 
 -- It was asked to do this.
@@ -83,15 +85,16 @@ set-told q c to_do is OutOfMemory h = tt
 set-told q c to_do is _ h = record { to_do = to_do; asked = asks-for q c to_do is; told = h }
 
 -- Where profiles are put apart, rounds were to be told.
-puts-apart : (t : Task) (S : Members) → puts_apart t S ≡ true → (t ≡ task.Rounds) × (are_put_apart S ≡ true)
-puts-apart task.Rounds S h = (refl, h)
+puts-apart : (t : Task) (S : Members) → puts_apart t S ≡ true → (t ≡ task.Rounds (reading_in t)) × (are_put_apart S ≡ true)
+puts-apart (task.Rounds reading) S h = (refl, h)
 puts-apart _ S h = absurd (false≢true h)
 
 pub apart-told : (q : Question) (c : BundleContents) (to_do : Task) → task_of q c.state ≡ Some to_do → (r : Report) → puts_apart to_do (members c) ≡ true
-    → (are_put_apart (members c) ≡ true → IsToldOfSet task.Rounds (members c) c.certificates r) → IsTold (about q) c r
+    → (are_put_apart (members c) ≡ true → IsToldOfSet (task.Rounds (reading_of q)) (members c) c.certificates r) → IsTold (about q) c r
 apart-told q c to_do is r put h =
     let p = puts-apart to_do (members c) put in
-    set-told q c to_do is r (subst (λ t. IsToldOfSet t (members c) c.certificates r) (sym p.0) (h p.1))
+    let same : to_do ≡ task.Rounds (reading_of q) = p.0 ∙ ap (λ reading. task.Rounds reading) (reading-asked q c.state to_do is) in
+    set-told q c to_do is r (subst (λ t. IsToldOfSet t (members c) c.certificates r) (sym same) (h p.1))
 
 -- The lines of profiles and rules are those of a set that has them.
 pub apart-lines : (S : Members) (Ps : List Parts) (Rs : List Rule) (es : List CheckFault) → S.profiles ≡ Ps → S.rules ≡ Rs → are_put_apart S ≡ true
@@ -152,7 +155,7 @@ done-told t u S cs r is h = subst (λ v. IsToldOfSet v S cs r) (sym is) h
 
 -- Without something to do, there is no state to run on.
 pub lacks-state : (q : Question) (o : Option State) → task_of q o ≡ None → LacksState (about q) o
-lacks-state CheckWithState None is = absurd (none-some task.Check (sym is))
+lacks-state CheckWithState None is = absurd (none-some (task.Check Plain) (sym is))
 lacks-state CheckWithState (Some S) is = cc
 lacks-state (Run n) None is = record { workers = n; asked = inl refl; missing = refl }
 lacks-state (Run n) (Some S) is = cc
@@ -165,24 +168,43 @@ lacks-state (ask.Clashes reading) o is = cc
 lacks-state (ask.Graph reading) o is = cc
 lacks-state (Rounds reading) o is = cc
 
+-- A list whose length is 0 has no items.
+pub none-in : {X : Type 0} (xs : List X) → (length xs == 0) ≡ true → xs ≡ []
+none-in [] t = refl
+none-in (x ∷ xs) t = absurd (false≢true (sym (some-item x xs) ∙ t))
+
+-- A safe set is told to be safe if no archive is shared, and else which one is.
+pub safe-told : (reading : Reading) (S : Members) (archives : List (ℕ × ℕ)) → archives ≡ archives_as reading S.profiles → (length archives == 0) ≡ true → IsSafeSet S → (cs : List Certificate)
+    → IsToldOfSet (task.Check reading) S cs (Verdict Safe)
+safe-told reading S archives own none safe cs = (refl, safe, sym own ∙ none-in archives none)
+
+pub archive-told : (reading : Reading) (S : Members) (archives : List (ℕ × ℕ)) (numbers : ℕ × ℕ) (r : Report) → archives ≡ archives_as reading S.profiles → slice_get archives 0 ≡ Some numbers → IsSafeSet S
+    → TellsArchive S.profiles numbers r → IsToldAnyway (task.Check reading) S r
+archive-told reading S [] numbers r own at safe h = absurd (none-some numbers at)
+archive-told reading S (first ∷ others) numbers (SameArchive line refusal) own at safe h = λ cs. (
+  refl,
+  record { safe = safe; numbers = numbers; others = others; first = sym own ∙ ap (λ n. n ∷ others) (same_Some first numbers at); line_is = h },
+)
+archive-told reading S (first ∷ others) numbers OutOfMemory own at safe h = λ cs. tt
+archive-told reading S (first ∷ others) numbers _ own at safe h = absurd h
+
 -- A graph of a set and of its lines draws what clashes in it.
-pub drawn : (S : Members) (es : List CheckFault) (text : List ℕ) (safe : Bool) → AreFaults S es
+pub drawn : (reading : Reading) (S : Members) (es : List CheckFault) (archives : List (ℕ × ℕ)) (text : List ℕ) (safe : Bool) → archives ≡ archives_as reading S.profiles → AreFaults S es
     → ((e : CheckFault) → Contains es e → Disproves S e)
     → ((g : Goal) → IsTrue (is_goal S g) → HasInductiveTexts S g ⊎ HasLine S es g) → (es ≡ [] → IsSafeSet S)
-    → text ≡ graph_text S es → safe ≡ (length es == 0) → DrawsClashes S text safe
-drawn S es text safe all disproved rest sure text_is safe_is = record {
+    → text ≡ graph_text S es archives → safe ≡ (length es == 0 && length archives == 0) → DrawsClashes reading S text safe
+drawn reading S es archives text safe own all disproved rest sure text_is safe_is = record {
   lines = es;
   all = all;
   disproved = disproved;
   rest = rest;
-  text_is = text_is;
-  safe_is = (λ t. none es (sym safe_is ∙ t), λ e. safe_is ∙ ap (λ (xs : List CheckFault). length xs == 0) e);
-  sure = λ t. sure (none es (sym safe_is ∙ t));
+  text_is = text_is ∙ ap (graph_text S es) own;
+  safe_is = (
+    λ t. let both = and_parts (length es == 0) (length archives == 0) (sym safe_is ∙ t) in (none-in es both.0, sym own ∙ none-in archives both.1),
+    λ e. safe_is ∙ and_from (length es == 0) (length archives == 0) (ap (λ (xs : List CheckFault). length xs == 0) e.0) (ap (λ (xs : List (ℕ × ℕ)). length xs == 0) (own ∙ e.1)),
+  );
+  sure = λ t. sure (none-in es (and_parts (length es == 0) (length archives == 0) (sym safe_is ∙ t)).0);
 }
-  where
-    none : (xs : List CheckFault) → (length xs == 0) ≡ true → xs ≡ []
-    none [] t = refl
-    none (x ∷ xs) t = absurd (false≢true (sym (some-item x xs) ∙ t))
 
 -- What is true of what a bundle says is true of its bytes.
 pub told-holds : (request : Request) (bytes : List ℕ) (c : BundleContents) (r : Report) → SpellsAs (reading_for request) bytes c → IsTold request c r → Holds request bytes r

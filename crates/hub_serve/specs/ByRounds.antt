@@ -27,6 +27,7 @@ use Rattle.hub_job.specs.declared.run_fault.RunFault.TheVariants as error
 use Rattle.hub_serve.specs.declared.task.Task.{Task}
 use Rattle.hub_serve.specs.declared.task.Task.TheVariants as task
 use Rattle.hub_serve.specs.Runs.{ComesOf, IsRunOn, PreventsRun, is_out_of_memory}
+use Rattle.hub_cli.specs.declared.words.Reading.TheVariants.{Plain}
 use Rattle.hub_serve.specs.Rounds.{HasUnverifiedRound}
 
 -- The profiles of a round, with the rules of the set.
@@ -181,12 +182,12 @@ pub record AddsRound (Rs : List Rule) (Ps : List Parts) (n : ℕ) (old new : Rou
 abbrev pub OfRoundsRun : Result RoundsRun CheckFault → (Members → ℕ → State → Type 0) → Type 0
 OfRoundsRun run C =
     (M : Members) (n : ℕ) (S : State) → IfOk run (HasRunByRounds M n S)
-    → IfErr run (λ e. is_memory e ≡ false → HasUnverifiedRound M) → C M n S
+    → IfErr run (λ e. is_memory e ≡ false → HasUnverifiedRound Plain M) → C M n S
 
 -- The claim holds of what was to be run by rounds, where a round is refused with this fault.
 abbrev pub OfUnverified : CheckFault → (Members → ℕ → State → Type 0) → Type 0
 OfUnverified e C =
-    (M : Members) (n : ℕ) (S : State) → (is_memory e ≡ false → HasUnverifiedRound M) → C M n S
+    (M : Members) (n : ℕ) (S : State) → (is_memory e ≡ false → HasUnverifiedRound Plain M) → C M n S
 
 -- The claim holds if these are all faults of a set, and none says that a profile is in no round.
 abbrev pub IfNoneIsLeftOut : Members → List CheckFault → Type 0 → Type 0

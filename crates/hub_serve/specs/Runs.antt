@@ -89,12 +89,12 @@ pub record WritesError (M : Members) (S : State) (n status : ℕ) (below : List 
 -- What is to follow `safe`, with the status if all is written: nothing and 0, unless jobs are to be
 -- run.
 abbrev pub IsBelow : Task → Members → ℕ → List ℕ → Type 0
-IsBelow task.Check M status below = (status ≡ 0) × (below ≡ [])
+IsBelow (task.Check reading) M status below = (status ≡ 0) × (below ≡ [])
 IsBelow (task.RunJobs n S) M status below =
     (MayRun S M.profiles n × WritesRun M S status below) ⊎ WritesError M S n status below
 IsBelow (task.RunByRounds n S) M status below = ⊥
 IsBelow task.Certify M status below = ⊥
 IsBelow task.Verify M status below = ⊥
-IsBelow task.Clashes M status below = (status ≡ 0) × (below ≡ [])
-IsBelow task.Graph M status below = ⊥
-IsBelow task.Rounds M status below = ⊥
+IsBelow (task.Clashes reading) M status below = (status ≡ 0) × (below ≡ [])
+IsBelow (task.Graph reading) M status below = ⊥
+IsBelow (task.Rounds reading) M status below = ⊥

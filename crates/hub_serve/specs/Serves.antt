@@ -15,7 +15,7 @@ use Rattle.hub_report.specs.Report.{says_read_failed, status_of, text_of, unread
 use Rattle.hub_serve.specs.Reads.{AreSpent, Reads, reads_between}
 use Rattle.hub_serve.specs.Rounds.{BeginsAsClash}
 use Rattle.hub_serve.specs.Told.{Holds}
-use Rattle.hub_serve.specs.Shown.{TellsSafe, SpellsSafe, SpellsUnsafe, SpellsVerified, SpellsClashes, SpellsRounds, SpellsGraph, SpellsRoundsRun, ShowsImport, SpellsReach, ShowsMend}
+use Rattle.hub_serve.specs.Shown.{TellsSafe, SpellsSafe, SpellsUnsafe, SpellsVerified, SpellsClashes, SpellsRounds, SpellsGraph, SpellsRoundsRun, SpellsArchive, ShowsImport, SpellsReach, ShowsMend}
 use Rattle.hub_text.specs.declared.watched.Watched.{Watched}
 
 -- A text was written to an output, whole unless a call of the output failed: then a prefix of it,
@@ -77,6 +77,11 @@ pub record Serves (asked : Option Request) (remaining old new : Option (List ℕ
   -- the set that it spells is safe.
   pub verified : (bytes text : List ℕ) → asks_mend asked ≡ false
       → Begins remaining old new (codes "verified\n") bytes text → SpellsVerified asked bytes
+  -- `same archive:` is written only for Unison, of two own profiles of the input that have the same two
+  -- roots: then Unison would spoil their one archive.
+  pub same_archive : (bytes text : List ℕ) → asks_mend asked ≡ false
+      → Begins remaining old new (codes "same archive: ") bytes text
+      → SpellsArchive asked bytes (codes "same archive: " ++ text) failed status
   -- `overlap:` and `breach:` are written only if the input spells a set that isn't safe.
   pub overlap : (bytes text : List ℕ) → asks_mend asked ≡ false
       → Begins remaining old new (codes "overlap: ") bytes text → SpellsUnsafe asked bytes
@@ -120,6 +125,11 @@ pub record ServesInFull (asked : Option Request) (remaining old new : Option (Li
   -- the set that it spells is safe.
   pub verified : (bytes text : List ℕ) → asks_mend asked ≡ false
       → Begins remaining old new (codes "verified\n") bytes text → SpellsVerified asked bytes
+  -- `same archive:` is written only for Unison, of two own profiles of the input that have the same two
+  -- roots: then Unison would spoil their one archive.
+  pub same_archive : (bytes text : List ℕ) → asks_mend asked ≡ false
+      → Begins remaining old new (codes "same archive: ") bytes text
+      → SpellsArchive asked bytes (codes "same archive: " ++ text) write_failed status
   -- `overlap:` and `breach:` are written only if the input spells a set that isn't safe.
   pub overlap : (bytes text : List ℕ) → asks_mend asked ≡ false
       → Begins remaining old new (codes "overlap: ") bytes text → SpellsUnsafe asked bytes

@@ -1,5 +1,5 @@
 -- What the first line of what is written shows of the input.
-use Rattle.std.specs.Prelude.{◌≡◌, ℕ, Bool, true, false, if◌then◌else◌, List, take, Option, Some, slice_get}
+use Rattle.std.specs.Prelude.{◌≡◌, ◌<◌, ◌++◌, ℕ, Bool, true, false, if◌then◌else◌, List, take, Option, Some, slice_get}
 use Rattle.hub_profile.specs.Parts.{Parts}
 use Rattle.hub_cert.specs.Set.{IsSafeSet}
 use Rattle.hub_cert.specs.Verdict.{AreInductive}
@@ -16,12 +16,15 @@ use Rattle.hub_serve.specs.Mended.{Mends, mend_text}
 use Rattle.hub_mend.specs.Additions.{mended_text}
 use Rattle.hub_mend.specs.declared.piece.Piece.{Piece}
 use Rattle.hub_import.specs.Imported.{contents_of}
+use Rattle.hub_preferences.specs.Counted.{counted_bundle}
+use Rattle.hub_report.specs.Archive.{archive_line}
 use Rattle.hub_report.specs.RoundsRun.{rounds_run_text}
 use Rattle.hub_report.specs.declared.rounds_run.RoundsRun.{RoundsRun}
 use Rattle.hub_state.specs.State.{State}
 use Rattle.hub_serve.specs.ByRounds.{HasRunByRounds}
 use Rattle.hub_serve.specs.Rounds.{DrawsClashes, ListsClashes, WritesRounds}
 use Rattle.hub_serve.specs.Runs.{IsBelow}
+use Rattle.hub_unison.specs.Shared.{ShareNoArchive, is_shared}
 use Rattle.hub_serve.specs.Unison.{SpellsAs, SpellsRoundInUnison, SpellsSafeInUnison, SpellsUnreachedInUnison}
 use Rattle.hub_serve.specs.Task.{task_of}
 use Rattle.hub_serve.specs.Told.{ReachIs, SaysOfMended}
@@ -101,7 +104,7 @@ pub record SpellsVerified (asked : Option Request) (bytes : List ℕ) : Type 0 w
 pub record ShowsClashes (reading : Reading) (bytes text : List ℕ) (status : ℕ) : Type 0 where
   pub contents : BundleContents
   pub spelled : SpellsAs reading bytes contents
-  pub listed : ListsClashes (members contents) text
+  pub listed : ListsClashes reading (members contents) text
   pub status_is : status ≡ 1
 
 abbrev pub SpellsClashes : Reading → List ℕ → List ℕ → Bool → ℕ → Type 0
@@ -115,7 +118,7 @@ pub record ShowsRounds (asked : Option Request) (bytes text : List ℕ) (status 
   pub contents : BundleContents
   pub spelled : SpellsAs reading bytes contents
   pub well : Bool
-  pub cut : WritesRounds (members contents) text well
+  pub cut : WritesRounds reading (members contents) text well
   pub in_unison : reading ≡ read.Unison → (k : ℕ) (round : List Parts)
       → slice_get cut.rounds.rounds k ≡ Some round → SpellsRoundInUnison bytes round
   pub status_is : status ≡ (if well then 0 else 1)
@@ -131,7 +134,7 @@ pub record ShowsGraph (asked : Option Request) (bytes text : List ℕ) (status :
   pub contents : BundleContents
   pub spelled : SpellsAs reading bytes contents
   pub well : Bool
-  pub drawn : DrawsClashes (members contents) text well
+  pub drawn : DrawsClashes reading (members contents) text well
   pub in_unison : reading ≡ read.Unison → well ≡ true → SpellsSafeInUnison bytes
   pub status_is : status ≡ (if well then 0 else 1)
 
@@ -157,14 +160,38 @@ abbrev pub SpellsRoundsRun : Option Request → List ℕ → List ℕ → Bool �
 SpellsRoundsRun asked bytes = TellsUnlessFailed (ShowsRoundsRun asked bytes)
 
 -- The text is a bundle. Read plainly, it says the readings for Unison of the profiles that the
--- bytes spell, and their rules, and neither a state nor certificates. If these are a safe set, then
--- by the lines of the bytes that count no two of the own profiles clash in Unison, and Unison breaks
--- none of the rules.
+-- bytes spell, and their rules, and neither a state nor certificates. If these are a safe set and no
+-- two of the profiles share an archive, then by the lines of the bytes that count no two of the own
+-- profiles clash in Unison, and Unison breaks none of the rules.
 pub record ShowsImport (bytes text : List ℕ) : Type 0 where
   pub contents : BundleContents
   pub spelled : SpellsAs read.Unison bytes contents
   pub written : Spells text (contents_of contents.profiles contents.rules)
-  pub in_unison : IsSafeSet (members contents) → SpellsSafeInUnison bytes
+  pub in_unison : IsSafeSet (members contents) → ShareNoArchive contents.profiles
+      → SpellsSafeInUnison bytes
+
+-- The words want the profiles to be read for Unison, and the lines of the bytes that count are a
+-- bundle. Two of its own profiles have the same two roots. The text begins with their line, which has
+-- their names and the roots of the first one, and the status is 1.
+pub record ShowsArchive (asked : Option Request) (bytes text : List ℕ) (status : ℕ) : Type 0 where
+  pub request : Request
+  pub is_asked : asked ≡ Some request
+  pub for_unison : reading_for request ≡ read.Unison
+  pub own : BundleContents
+  pub spelled : Spells (counted_bundle bytes) own
+  pub numbers : ℕ × ℕ
+  pub P : Parts
+  pub Q : Parts
+  pub before : numbers.0 < numbers.1
+  pub at_first : slice_get own.profiles numbers.0 ≡ Some P
+  pub at_second : slice_get own.profiles numbers.1 ≡ Some Q
+  pub shared : is_shared P Q ≡ true
+  pub rest : List ℕ
+  pub text_is : text ≡ archive_line own.profiles numbers ++ rest
+  pub status_is : status ≡ 1
+
+abbrev pub SpellsArchive : Option Request → List ℕ → List ℕ → Bool → ℕ → Type 0
+SpellsArchive asked bytes = TellsUnlessFailed (ShowsArchive asked bytes)
 
 -- The words ask whether a profile reaches a path, and this is what a profile that the bytes spell
 -- answers.
@@ -187,7 +214,7 @@ pub record ShowsMend (reading : Reading) (as_bundle : Bool) (bytes text : List �
   pub mends : Mends reading bytes pieces new
   pub safe : Bool
   pub line : List ℕ
-  pub said : SaysOfMended safe new pieces line
+  pub said : SaysOfMended reading safe new pieces line
   pub text_is : text ≡ mend_text as_bundle pieces line
   pub status_is : status ≡ (if safe then 0 else 1)
   pub in_unison : reading ≡ read.Unison → safe ≡ true → SpellsSafeInUnison (mended_text pieces)

@@ -1,5 +1,5 @@
 -- What an answer says of a question and of an input.
-use Rattle.std.specs.Prelude.{◌≡◌, ◌⊎◌, ◌≤◌, ⊤, ℕ, Bool, true, false, List, length, Some, None, Result, Ok, Err, IfErr, IfOk, chars, string_bytes}
+use Rattle.std.specs.Prelude.{◌≡◌, ◌⊎◌, ◌≤◌, ◌∷◌, ⊤, ℕ, Bool, true, false, List, [], length, Some, None, Result, Ok, Err, IfErr, IfOk, chars, string_bytes}
 use Rattle.hub_path.specs.Path.{Path}
 use Rattle.hub_path.specs.Reading.{path_reading}
 use Rattle.hub_path.specs.declared.fault.PathFault.{PathFault}
@@ -45,6 +45,7 @@ use Rattle.hub_serve.specs.Reached.{first_named}
 use Rattle.hub_serve.specs.Mended.{Mends, asks_mend, mend_text}
 use Rattle.hub_mend.specs.Additions.{line_count, safe_line}
 use Rattle.hub_mend.specs.declared.piece.Piece.{Piece}
+use Rattle.hub_report.specs.Archive.{archive_line}
 use Rattle.hub_report.specs.Refusal.{refusal_line}
 use Rattle.hub_report.specs.declared.mended.Mended.{Mended}
 use Rattle.hub_import.specs.Imported.{contents_of}
@@ -52,8 +53,8 @@ use Rattle.hub_report.specs.Report.{TellsRefusal}
 use Rattle.hub_serve.specs.ByRounds.{HasRunByRoundsAs, IsFirstAlone, RunsByRounds}
 use Rattle.hub_serve.specs.Rounds.{DrawsClashes, HasUnverifiedRound, IsCut, ListsClashes}
 use Rattle.hub_serve.specs.Runs.{HasRunAs, IsPrevented}
-use Rattle.hub_serve.specs.Unison.{SpellsAs, counted_as}
-use Rattle.hub_serve.specs.Task.{AsksTask, LacksState}
+use Rattle.hub_serve.specs.Unison.{SpellsAs, archives_as, counted_as}
+use Rattle.hub_serve.specs.Task.{AsksTask, LacksState, reading_in}
 
 -- It was asked whether a profile reaches a path, and this is the answer of the first profile of
 -- that name.
@@ -88,20 +89,20 @@ pub record HasBadPath (request : Request) (Ps : List Parts) (f : PathFault) : Ty
 -- Profiles and rules that are no set are cut into rounds all the same, if that is to be done and
 -- nested roots of profiles are all that keeps them from being one.
 abbrev pub puts_apart : Task → Members → Bool
-puts_apart task.Rounds S = are_put_apart S
+puts_apart (task.Rounds reading) S = are_put_apart S
 puts_apart _ S = false
 
 -- The fault by which a set that was made is refused, where these are the bundle's certificates, or
 -- by which profiles that are put apart are.
 abbrev pub FaultOf : Task → Members → List Certificate → CheckFault → Type 0
-FaultOf task.Check S cs e = (e ≡ fault.OutOfMemory) ⊎ IsFirstFault S e
+FaultOf (task.Check reading) S cs e = (e ≡ fault.OutOfMemory) ⊎ IsFirstFault S e
 FaultOf (task.RunJobs n state) S cs e = (e ≡ fault.OutOfMemory) ⊎ IsFirstFault S e
 FaultOf (task.RunByRounds n state) S cs e = IsFirstAlone S e
 FaultOf task.Certify S cs e = (e ≡ fault.OutOfMemory) ⊎ IsFirstFault S e
 FaultOf task.Verify S cs e = Refuses S cs e
-FaultOf task.Clashes S cs e = ⊥
-FaultOf task.Graph S cs e = ⊥
-FaultOf task.Rounds S cs e = (are_put_apart S ≡ true) × IsRefusedApart S e
+FaultOf (task.Clashes reading) S cs e = ⊥
+FaultOf (task.Graph reading) S cs e = ⊥
+FaultOf (task.Rounds reading) S cs e = (are_put_apart S ≡ true) × IsRefusedApart S e
 
 -- The text is that of certificates of a set, one for each goal and in the order of the goals, and
 -- it is read as these.
@@ -112,18 +113,39 @@ pub record WritesCertificates (S : Members) (text : List ℕ) : Type 0 where
   pub text_is : text ≡ certificates_text own
   pub read_back : certificates_in text ≡ Ok own
 
+-- Whether `safe` may be said of what is to be done, without a run;
+abbrev pub may_say_safe : Task → Bool
+may_say_safe (task.Check reading) = true
+may_say_safe (task.Clashes reading) = true
+may_say_safe _ = false
+
+-- and which two profiles of a set share an archive, as they are read for it.
+abbrev pub archives_in : Task → Members → List (ℕ × ℕ)
+archives_in t S = archives_as (reading_in t) S.profiles
+
 -- What holds of a set that was made, and of the bundle's certificates, where this was to be done
 -- and that is the verdict,
 abbrev pub IsVerdictOn : Task → Members → List Certificate → Verdict → Type 0
-IsVerdictOn t S cs Safe = ((t ≡ task.Check) ⊎ (t ≡ task.Clashes)) × IsSafeSet S
+IsVerdictOn t S cs Safe = (may_say_safe t ≡ true) × IsSafeSet S × (archives_in t S ≡ [])
 IsVerdictOn t S cs Verified = (t ≡ task.Verify) × AreInductive S cs × IsSafeSet S
 IsVerdictOn t S cs (Certified text) = (t ≡ task.Certify) × WritesCertificates S (string_bytes text)
 
 -- or that is the answer with what clashes in it,
 abbrev pub AreClashesOf : Task → Members → ClashesAnswer → Type 0
-AreClashesOf t S (Lines text first) = (t ≡ task.Clashes) × ListsClashes S (string_bytes text)
-AreClashesOf t S (Graph g) = (t ≡ task.Graph) × DrawsClashes S (string_bytes g.text) g.safe
-AreClashesOf t S (Cut c) = (t ≡ task.Rounds) × IsCut S c
+AreClashesOf t S (Lines text first) =
+    (t ≡ task.Clashes (reading_in t)) × ListsClashes (reading_in t) S (string_bytes text)
+AreClashesOf t S (Graph g) =
+    (t ≡ task.Graph (reading_in t)) × DrawsClashes (reading_in t) S (string_bytes g.text) g.safe
+AreClashesOf t S (Cut c) = (t ≡ task.Rounds (reading_in t)) × IsCut (reading_in t) S c
+
+-- A set is safe, and two of its profiles share an archive if they are read so. The line says so of
+-- the first two.
+pub record SharesArchive (reading : Reading) (S : Members) (line : List ℕ) : Type 0 where
+  pub safe : IsSafeSet S
+  pub numbers : ℕ × ℕ
+  pub others : List (ℕ × ℕ)
+  pub first : archives_as reading S.profiles ≡ numbers ∷ others
+  pub line_is : line ≡ archive_line S.profiles numbers
 
 -- with what came of a run,
 abbrev pub CameOfRun : Task → Members → RunAnswer → Type 0
@@ -138,7 +160,10 @@ IsToldOfSet t S cs (answer.Clashes a) = AreClashesOf t S a
 IsToldOfSet t S cs (answer.Run a) = CameOfRun t S a
 IsToldOfSet t S cs (answer.Refused text refusal) =
     (e : CheckFault) × FaultOf t S cs e × TellsRefusal S e (answer.Refused text refusal)
-IsToldOfSet t S cs answer.NotVerified = ((t ≡ task.Rounds) ⊎ RunsByRounds t) × HasUnverifiedRound S
+IsToldOfSet t S cs (answer.SameArchive line refusal) =
+    (t ≡ task.Check (reading_in t)) × SharesArchive (reading_in t) S (string_bytes line)
+IsToldOfSet t S cs answer.NotVerified =
+    ((t ≡ task.Rounds (reading_in t)) ⊎ RunsByRounds t) × HasUnverifiedRound (reading_in t) S
 IsToldOfSet t S cs answer.OutOfMemory = ⊤
 IsToldOfSet t S cs _ = ⊥
 
@@ -211,16 +236,23 @@ pub record IsTrueOf (request : Request) (bytes : List ℕ) (r : Report) : Type 0
   pub spelled : SpellsAs (reading_for request) bytes contents
   pub told : IsTold request contents r
 
--- What is said of a bundle with so many lines, which is safe or not: that it is, or why `check`
--- refuses it.
-abbrev pub SaysOf : Bool → BundleContents → ℕ → List ℕ → Type 0
-SaysOf true c n line = IsSafeSet (members c) × (line ≡ safe_line n)
-SaysOf false c n line =
-    (e : CheckFault) × IsRefusedFor task.Check c e × (line ≡ refusal_line (members c) e)
+-- `check` refuses a bundle whose profiles are read so, with this line.
+pub record IsRefusedWith (reading : Reading) (c : BundleContents) (line : List ℕ) : Type 0 where
+  pub reason : CheckFault
+  pub refused : IsRefusedFor (task.Check reading) c reason
+  pub line_is : line ≡ refusal_line (members c) reason
+
+-- What is said of a bundle with so many lines, whose profiles are read so, and which is safe or not:
+-- that it is, and no archive is shared; why `check` refuses it; or which archive is shared.
+abbrev pub SaysOf : Reading → Bool → BundleContents → ℕ → List ℕ → Type 0
+SaysOf reading true c n line =
+    IsSafeSet (members c) × (archives_as reading c.profiles ≡ []) × (line ≡ safe_line n)
+SaysOf reading false c n line =
+    IsRefusedWith reading c line ⊎ SharesArchive reading (members c) line
 
 -- The same of a bundle with these lines.
-abbrev pub SaysOfMended : Bool → BundleContents → List Piece → List ℕ → Type 0
-SaysOfMended safe c pieces line = SaysOf safe c (line_count pieces) line
+abbrev pub SaysOfMended : Reading → Bool → BundleContents → List Piece → List ℕ → Type 0
+SaysOfMended reading safe c pieces line = SaysOf reading safe c (line_count pieces) line
 
 -- It was asked for lines that make the bundle's set safe, and these are written, or the bundle with
 -- them.
@@ -232,7 +264,7 @@ pub record IsMended (request : Request) (bytes : List ℕ) (m : Mended) : Type 0
   pub new : BundleContents
   pub mends : Mends reading bytes pieces new
   pub line : List ℕ
-  pub said : SaysOfMended m.safe new pieces line
+  pub said : SaysOfMended reading m.safe new pieces line
   pub text_is : m.text.items ≡ mend_text as_bundle pieces line
 
 -- What holds of an input that isn't read. That a read failed is no fact about its bytes:

@@ -1,5 +1,5 @@
 //! Lines that make the set of a bundle's profiles and rules safe.
-ghost use Rattle.std.specs.Prelude.{◌≡◌, ◌⊎◌, true, IfErr, IfOk, None};
+ghost use Rattle.std.specs.Prelude.{◌≡◌, ◌⊎◌, [], true, IfErr, IfOk, None};
 ghost use Rattle.hub_cli.specs.Words.{mended, reading_for, request_of};
 ghost use Rattle.hub_bundle.specs.Sections.{members};
 ghost use Rattle.hub_cert.specs.Set.{IsSafeSet};
@@ -9,6 +9,7 @@ ghost use Rattle.hub_serve.specs.Mended as spec;
 ghost use Rattle.hub_serve.specs.forms.Mending.{CheckTells, HoldsIf, MendsTextOf};
 ghost use Rattle.hub_serve.specs.Told as told;
 ghost use Rattle.hub_serve.specs.Told.{SaysOfMended};
+ghost use Rattle.hub_serve.specs.Unison.{archives_as};
 
 use crate::answer::contents_in;
 use crate::progress::Progress;
@@ -118,6 +119,10 @@ fn report_on_said<'a>(
             let told = told_of(pieces, Some(refusal));
             report_with(alloc, as_bundle, pieces, line.as_str(), false, told)
         }
+        Report::SameArchive(line, refusal) => {
+            let told = told_of(pieces, Some(refusal));
+            report_with(alloc, as_bundle, pieces, line.as_str(), false, told)
+        }
         Report::OutOfMemory => Report::OutOfMemory,
         _ => Report::NotMended,
     }
@@ -141,7 +146,8 @@ fn report_on_verdict<'a>(
 
 /// The answer with these lines, if the bundle with them is safe.
 fn report_on_safe<'a>(alloc: Global, as_bundle: bool, pieces: &[Piece]) -> Report<'a>
-    ensures told { HoldsIf pieces.now as_bundle (λ _ new. IsSafeSet (members new)) result }
+    ensures told { HoldsIf pieces.now as_bundle (λ reading new. IsSafeSet (members new)
+        × (archives_as reading new.profiles ≡ [])) result }
     ensures read { unread_by result ≡ None }
 {
     let Some(count) = line_count(pieces) else {
@@ -166,7 +172,7 @@ fn report_with<'a>(
     told: ToldMended,
 ) -> Report<'a>
     ensures told { HoldsIf pieces.now as_bundle
-        (λ _ new. SaysOfMended safe new pieces.now line.now) result }
+        (λ reading new. SaysOfMended reading safe new pieces.now line.now) result }
     ensures read { unread_by result ≡ None }
 {
     match text_with(alloc, as_bundle, pieces, line) {

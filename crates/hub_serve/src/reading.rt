@@ -6,7 +6,8 @@ ghost use Rattle.hub_serve.specs.Unison.{IsReadAs, IsReadForUnison};
 use hub_bundle::BundleContents;
 use hub_cli::Reading;
 use hub_preferences::counted;
-use hub_unison::read_set;
+use hub_profile::Profile;
+use hub_unison::{read_set, shared_archives};
 use std::alloc::{AllocError, Global};
 
 /// The bytes of a bundle that count, if its profiles are read so. They have as many lines. For the plain reading they are the bytes
@@ -51,4 +52,19 @@ fn read_for_unison(alloc: Global, contents: BundleContents) -> Result<BundleCont
         state,
         certificates,
     })
+}
+
+/// Which two of these profiles share an archive of Unison, by their numbers, if they were read for it. No archive is shared by the
+/// plain reading: hubsync's own runs of a safe set keep theirs apart.
+pub fn archives_as(
+    alloc: Global,
+    reading: Reading,
+    profiles: &[Profile],
+) -> Result<Vec<(usize, usize)>, AllocError>
+    ensures { IfOk result (λ v. v.items ≡ spec.archives_as reading profiles.now) }
+{
+    match reading {
+        Reading::Plain => Ok(Vec::new(alloc)),
+        Reading::Unison => shared_archives(alloc, profiles),
+    }
 }

@@ -2,14 +2,14 @@
 ghost use Rattle.std.specs.Prelude.{◌≡◌};
 ghost use Rattle.hub_serve.specs.Task as spec;
 
-use hub_cli::{DEFAULT_WORKERS, Question};
+use hub_cli::{DEFAULT_WORKERS, Question, Reading};
 use hub_state::State;
 
 /// What is to be done about the set of a bundle's profiles and rules.
 #[derive(Drop)]
 pub enum Task {
-    /// To say whether the set is safe.
-    Check,
+    /// To say whether the set is safe, with its profiles read so.
+    Check(Reading),
     /// And to run its jobs on this state, if it is.
     RunJobs {
         /// The number of workers.
@@ -29,11 +29,11 @@ pub enum Task {
     /// To say whether the bundle's certificates show that it is safe.
     Verify,
     /// To say all that clashes in it, and all that breaks a rule.
-    Clashes,
+    Clashes(Reading),
     /// To draw it and all that clashes in it.
-    Graph,
+    Graph(Reading),
     /// To cut it into rounds.
-    Rounds,
+    Rounds(Reading),
 }
 
 impl Task {
@@ -46,7 +46,8 @@ impl Task {
                 workers: DEFAULT_WORKERS,
                 state,
             }),
-            (Question::CheckWithState, None) | (Question::Check(_), _) => Some(Task::Check),
+            (Question::CheckWithState, None) => Some(Task::Check(Reading::Plain)),
+            (Question::Check(reading), _) => Some(Task::Check(reading)),
             (Question::Run(workers), Some(state)) => Some(Task::RunJobs { workers, state }),
             (Question::RunByRounds(workers), Some(state)) => Some(Task::RunByRounds {
                 workers,
@@ -55,9 +56,9 @@ impl Task {
             (Question::Run(_) | Question::RunByRounds(_), None) => None,
             (Question::Certify, _) => Some(Task::Certify),
             (Question::Verify, _) => Some(Task::Verify),
-            (Question::Clashes(_), _) => Some(Task::Clashes),
-            (Question::Graph(_), _) => Some(Task::Graph),
-            (Question::Rounds(_), _) => Some(Task::Rounds),
+            (Question::Clashes(reading), _) => Some(Task::Clashes(reading)),
+            (Question::Graph(reading), _) => Some(Task::Graph(reading)),
+            (Question::Rounds(reading), _) => Some(Task::Rounds(reading)),
         }
     }
 }

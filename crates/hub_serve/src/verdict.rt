@@ -4,20 +4,21 @@ ghost use Rattle.hub_cert.specs.declared.certificate.Certificate.{Certificate};
 ghost use Rattle.hub_report.specs.Report.{unread_by};
 ghost use Rattle.hub_cli.specs.Words.{about};
 ghost use Rattle.hub_serve.specs.Told as told;
-ghost use Rattle.hub_serve.specs.Told.{OfAnswer};
-ghost use Rattle.hub_cert.specs.Set.{OfMembers};
+ghost use Rattle.hub_serve.specs.Told.{IsToldAnyway, OfAnswer};
+ghost use Rattle.hub_cert.specs.Set.{IsSafeSet, OfMembers};
 ghost use Rattle.hub_serve.specs.declared.task.Task.{Task};
 ghost use Rattle.hub_serve.specs.declared.task.Task.TheVariants as task;
 
 use crate::by_rounds::report_on_run_by_rounds;
 use crate::progress::{Goals, Progress};
+use crate::reading::archives_as;
 use crate::rounds::{report_on_clashes, report_on_graph, report_on_rounds, report_on_rounds_apart};
 use crate::run::run_set;
 use crate::task::Task;
 use hub_apart::are_put_apart;
 use hub_bundle::BundleContents;
 use hub_cert::{Certificate, CheckFault, ProfileSet, verify, write_certificates};
-use hub_cli::Question;
+use hub_cli::{Question, Reading};
 use hub_profile::{Profile, Rule};
 use hub_report::{Report, Verdict};
 use hub_search::{certificates, check_with_progress};
@@ -48,7 +49,7 @@ pub fn report_on_set<'a, T: Threads + Wait + Sync, P: Progress + Sync>(
         return Report::NoState;
     };
     if puts_apart(&task, profiles.as_slice(), rules.as_slice()) {
-        return report_on_rounds_apart(alloc, profiles, rules);
+        return report_on_rounds_apart(alloc, question.reading(), profiles, rules);
     }
     match ProfileSet::new(alloc, profiles, rules) {
         Ok(set) => report_on_made(rt, alloc, task, set, certificates.as_slice(), progress),
@@ -61,7 +62,7 @@ fn puts_apart(task: &Task, profiles: &[Profile], rules: &[Rule]) -> bool
     ensures { OfMembers profiles.now rules.now (λ S. result ≡ told.puts_apart task.now S) }
 {
     match task {
-        Task::Rounds => are_put_apart(profiles, rules),
+        Task::Rounds(_) => are_put_apart(profiles, rules),
         _ => false,
     }
 }
@@ -79,7 +80,13 @@ fn report_on_made<'a, T: Threads + Wait + Sync, P: Progress + Sync>(
     ensures read { unread_by result ≡ None }
 {
     match task {
-        Task::Check => or_refusal(alloc, &set, report_on_safety(alloc, &set, progress)),
+        Task::Check(reading) => {
+            or_refusal(
+                alloc,
+                &set,
+                report_on_safety(alloc, &set, reading, progress),
+            )
+        }
         Task::RunJobs { workers, state } => {
             or_refusal(
                 alloc,
@@ -92,9 +99,9 @@ fn report_on_made<'a, T: Threads + Wait + Sync, P: Progress + Sync>(
         }
         Task::Certify => or_refusal(alloc, &set, report_with_certificates(alloc, &set)),
         Task::Verify => or_refusal(alloc, &set, report_on_certificates(alloc, &set, own)),
-        Task::Clashes => report_on_clashes(alloc, &set),
-        Task::Graph => report_on_graph(alloc, &set),
-        Task::Rounds => report_on_rounds(alloc, set),
+        Task::Clashes(reading) => report_on_clashes(alloc, &set, reading),
+        Task::Graph(reading) => report_on_graph(alloc, &set, reading),
+        Task::Rounds(reading) => report_on_rounds(alloc, set, reading),
     }
 }
 
@@ -113,21 +120,36 @@ fn or_refusal<'a>(
     }
 }
 
-/// The answer whether the set is safe, or the fault by which it is refused.
+/// The answer whether the set is safe with its profiles read so, or the fault by which it is refused.
 fn report_on_safety<'a, P: Progress>(
     alloc: Global,
     set: &ProfileSet,
+    reading: Reading,
     progress: &P,
 ) -> Result<Report<'a>, CheckFault>
     ensures told { (cs : List Certificate) → IfOk result
-        (told.IsToldOfSet task.Check set.now cs) }
+        (told.IsToldOfSet (task.Check reading) set.now cs) }
     ensures refused { (cs : List Certificate) → IfErr result
-        (told.FaultOf task.Check set.now cs) }
+        (told.FaultOf (task.Check reading) set.now cs) }
     ensures read { IfOk result (λ r. unread_by r ≡ None) }
 {
     // The type of what the check returns says that the set is safe.
     let _ = check_with_progress(alloc, set, &Goals { progress })?.set();
-    Ok(Report::Verdict(Verdict::Safe))
+    Ok(report_on_archives(alloc, set, reading))
+}
+
+/// The answer about a safe set: that it is safe, unless its profiles were read for Unison and two of them share an archive.
+fn report_on_archives<'a>(alloc: Global, set: &ProfileSet, reading: Reading) -> Report<'a>
+    ensures told { IsSafeSet set.now → IsToldAnyway (task.Check reading) set.now result }
+    ensures read { unread_by result ≡ None }
+{
+    let Ok(archives) = archives_as(alloc, reading, set.profiles()) else {
+        return Report::OutOfMemory;
+    };
+    match archives.first() {
+        Some(numbers) => Report::same_archive(alloc, set.profiles(), *numbers),
+        None => Report::Verdict(Verdict::Safe),
+    }
 }
 
 /// The answer what its jobs did and left, if it is safe.

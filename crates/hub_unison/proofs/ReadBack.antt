@@ -10,7 +10,8 @@ use Rattle.hub_glob.specs.contracts.path_spec.PathSpecExact.TheImpl.Laws as test
 use Rattle.hub_glob.specs.Specification.{Specification}
 use Rattle.hub_glob.specs.Writing.{spec_text}
 use Rattle.hub_profile.specs.Parts.{some_passes}
-use Rattle.hub_unison.specs.ReadingOf.{read_back, spelled}
+use Rattle.hub_unison.specs.Lines.{spelled}
+use Rattle.hub_unison.specs.ReadingOf.{read_back}
 
 pub spelled-text : (s : Specification) (bs cs : List ℕ) (o : Option Specification) → IsUtf8 bs
     → cs ≡ encode_utf8_all (spec_text s) → bs ≡ cs → o ≡ spelled (chars bs)

@@ -8,15 +8,15 @@ use Rattle.hub_profile.specs.declared.bars.Bars.{Bars}
 use Rattle.hub_profile.specs.declared.partial.Partial.{Partial}
 use Rattle.hub_profile.specs.Parts.{Parts}
 use Rattle.hub_glob.specs.Glob.{any_matches, matches}
-use Rattle.hub_unison.specs.Matching.{surely, perhaps}
+use Rattle.hub_unison.specs.Matching.{spec_surely, spec_perhaps}
 use Rattle.hub_unison.specs.UnisonReach.{is_starred}
 
 -- What some of the specifications match for certain, or what they may match.
 abbrev pub any_surely : List Specification → Path → Bool
-any_surely ss q = list_any (λ s. surely s q) ss
+any_surely ss q = list_any (λ s. spec_surely s q) ss
 
 abbrev pub any_perhaps : List Specification → Path → Bool
-any_perhaps ss q = list_any (λ s. perhaps s q) ss
+any_perhaps ss q = list_any (λ s. spec_perhaps s q) ss
 
 -- What the new `ignore` lines match, the old ones match for certain, or the new `ignorenot` lines
 -- match.
@@ -34,7 +34,7 @@ abbrev pub BarsLess : List Partial → List Partial → Type 0
 BarsLess old new =
     (test : Side → Bars → Bool) (q : Path)
     → list_any (λ b. test b.side b.bars && matches b.spec q) new ≡ true
-    → list_any (λ b. test b.side b.bars && surely b.spec q) old ≡ true
+    → list_any (λ b. test b.side b.bars && spec_surely b.spec q) old ≡ true
 
 -- Some kept value is starred.
 abbrev pub has_star : Parts → Bool

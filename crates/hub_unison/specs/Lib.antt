@@ -1,8 +1,12 @@
 pub mod Cautious
 pub mod Kept
+pub mod Lines
 pub mod Matching
 pub mod ReadingOf
 pub mod Rules
 pub mod Spares
+pub mod Shared
 pub mod UnisonReach
+pub mod Written
 pub mod laws
+pub mod examples

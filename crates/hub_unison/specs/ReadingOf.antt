@@ -1,11 +1,9 @@
 -- The readings of profiles, as functions of these.
 use Rattle.std.specs.Prelude.{ℕ, ◌+◌, ◌-◌, ◌≤◌, Bool, not, ◌&&◌, ◌||◌, ◌==◌, nat_lt, List, [], ◌∷◌, ◌++◌, length, map, Option, Some, None, if◌then◌else◌}
 use Rattle.std.specs.List.{list_any, list_all, filter, fold, flat_map}
-use Rattle.std.specs.Result.{result_ok}
 use Rattle.hub_path.specs.Path.{Path, is_over, parent, path_eq}
 use Rattle.hub_glob.specs.declared.piece.Part.TheVariants.{Brace}
 use Rattle.hub_glob.specs.contracts.path_spec.PathSpecPartialEq.TheImpl as tested
-use Rattle.hub_glob.specs.Reading.{spec_reading}
 use Rattle.hub_glob.specs.Specification.{Specification}
 use Rattle.hub_glob.specs.Glob.{choices}
 use Rattle.hub_glob.specs.Writing.{spec_text}
@@ -16,16 +14,13 @@ use Rattle.hub_profile.specs.declared.draft.TheConstants.{PATTERN_LINES}
 use Rattle.hub_profile.specs.Parts.{Parts, some_passes}
 use Rattle.hub_unison.specs.Cautious.{cover, has_star, with_patterns, with_tops}
 use Rattle.hub_unison.specs.Kept.{own_lines, spare_lines, is_alone, fitting, cut_from}
+use Rattle.hub_unison.specs.Lines.{spelled}
 use Rattle.hub_unison.specs.Matching.{all_simple, all_known, widened}
 use Rattle.hub_unison.specs.Rules.{for_rules}
 use Rattle.hub_unison.specs.declared.kept.Kept.{Kept}
 use Rattle.hub_unison.specs.declared.kept.Kept.TheVariants.{Nothing, Cut, Alone, Sparing}
 use Rattle.hub_unison.specs.Spares.{is_plain, pattern_spares}
 use Rattle.hub_unison.specs.UnisonReach.{is_starred}
-
--- The specification that a text spells.
-abbrev pub spelled : List ℕ → Option Specification
-spelled text = result_ok (spec_reading text)
 
 -- Whether a specification is spelled by its own text. That may have too many characters: the set
 -- `[a-c]` is written `[abc]`.

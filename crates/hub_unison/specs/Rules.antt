@@ -10,46 +10,47 @@ use Rattle.hub_profile.specs.Parts.{Parts, has_root}
 use Rattle.hub_reach.specs.Safe as safe
 use Rattle.hub_unison.specs.Matching.{Matching, IsMatching}
 use Rattle.hub_unison.specs.UnisonReach.{IsCautious, may_by, reach_by}
+use Rattle.hub_unison.specs.Written.{Written}
 
 -- Which changes Unison may make at the path of an item that it carries out, and below it. A bar is
 -- tested at the item's own path alone. Where a directory comes in place of a file, what is below is
 -- created though the item is updated. Where a directory goes, its deletion must be allowed, also if a
 -- file comes in its place (all observed with Unison 2.52.1).
-abbrev pub may_item : Matching → Parts → Path → Path → Verb → Bool
-may_item m P r p Create = may_by m P r p Create || may_by m P r p Update
-may_item m P r p Update = may_by m P r p Update
-may_item m P r p Delete = may_by m P r p Delete
+abbrev pub may_item : Matching → Written → Path → Path → Verb → Bool
+may_item m W r p Create = may_by m W r p Create || may_by m W r p Update
+may_item m W r p Update = may_by m W r p Update
+may_item m W r p Delete = may_by m W r p Delete
 
 -- What a rule forbids.
 abbrev pub forbidden : Rule → safe.Rule
 forbidden R = record { root = R.root; verb = R.verb; matches = matches R.spec }
 
--- By P, Unison may do what the rule forbids: at a path that the rule matches, at or below that of an
+-- By W, Unison may do what the rule forbids: at a path that the rule matches, at or below that of an
 -- item. What is ignored below the item isn't spared: it is deleted with it (observed with Unison
 -- 2.52.1).
-abbrev pub UnisonBreach : Matching → Parts → Rule → Type 0
-UnisonBreach m P R =
-    (p q : Path) × IsTrue (has_root P R.root) × IsTrue (is_path q) × IsTrue (is_over p q)
-    × IsTrue (reach_by m P p) × IsTrue (may_item m P R.root p R.verb) × IsTrue (matches R.spec q)
+abbrev pub UnisonBreach : Matching → Written → Rule → Type 0
+UnisonBreach m W R =
+    (p q : Path) × IsTrue (has_root W.parts R.root) × IsTrue (is_path q) × IsTrue (is_over p q)
+    × IsTrue (reach_by m W p) × IsTrue (may_item m W R.root p R.verb) × IsTrue (matches R.spec q)
 
 -- By none of the profiles Unison breaks one of the rules.
-abbrev pub KeepsRulesInUnison : List Parts → List Rule → Type 0
-KeepsRulesInUnison Ps Rs =
-    (m : Matching) → IsMatching m → (i k : ℕ) (P : Parts) (R : Rule) → slice_get Ps i ≡ Some P
-    → slice_get Rs k ≡ Some R → ¬ (UnisonBreach m P R)
+abbrev pub KeepsRulesInUnison : List Written → List Rule → Type 0
+KeepsRulesInUnison Ws Rs =
+    (m : Matching) → IsMatching m → (i k : ℕ) (W : Written) (R : Rule) → slice_get Ws i ≡ Some W
+    → slice_get Rs k ≡ Some R → ¬ (UnisonBreach m W R)
 
--- A reading of P beside these rules: it is cautious, and whatever rule Unison may break by P, it
+-- A reading of W beside these rules: it is cautious, and whatever rule Unison may break by W, it
 -- breaches.
-pub record IsReadingOf (Rs : List Rule) (P C : Parts) : Type 0 where
-  pub cautious : IsCautious P C
+pub record IsReadingOf (Rs : List Rule) (W : Written) (C : Parts) : Type 0 where
+  pub cautious : IsCautious W C
   pub breaches : (m : Matching) → IsMatching m → (k : ℕ) (R : Rule) → slice_get Rs k ≡ Some R
-      → UnisonBreach m P R → safe.Breach C (forbidden R)
+      → UnisonBreach m W R → safe.Breach C (forbidden R)
 
 -- Readings of some profiles beside these rules, one each.
-pub record AreReadForUnison (Ps : List Parts) (Rs : List Rule) (Cs : List Parts) : Type 0 where
-  pub count : length Cs ≡ length Ps
-  pub each : (i : ℕ) (P : Parts) → slice_get Ps i ≡ Some P
-      → (C : Parts) × (slice_get Cs i ≡ Some C) × IsReadingOf Rs P C
+pub record AreReadForUnison (Ws : List Written) (Rs : List Rule) (Cs : List Parts) : Type 0 where
+  pub count : length Cs ≡ length Ws
+  pub each : (i : ℕ) (W : Written) → slice_get Ws i ≡ Some W
+      → (C : Parts) × (slice_get Cs i ≡ Some C) × IsReadingOf Rs W C
 
 -- The bars on a root that hold for rules: `nocreation` doesn't, where something may be updated.
 abbrev pub rule_bars : Bars → Bars

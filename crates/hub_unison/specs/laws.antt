@@ -1,7 +1,9 @@
 pub mod Cautious
 pub mod Limit
+pub mod Lines
 pub mod Pattern
 pub mod Piece
 pub mod Reading
 pub mod Rules
+pub mod Shared
 pub mod Spare

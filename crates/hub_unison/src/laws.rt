@@ -1,35 +1,39 @@
 //! What follows from cautious readings: each law is the contract of an empty function.
-ghost use Rattle.std.specs.Prelude.{◌≡◌, ◌≤◌, List, length, map, true};
-ghost use Rattle.hub_path.specs.Path.{Path};
-ghost use Rattle.hub_glob.specs.Glob.{matches};
+ghost use Rattle.std.specs.Prelude.{◌≡◌, ◌≤◌, ℕ, List, [], length, map, true, Ok};
+ghost use Rattle.hub_path.specs.Path.{Name};
 ghost use Rattle.hub_glob.specs.Readable.{IsReadable};
 ghost use Rattle.hub_glob.specs.Specification.{Specification};
 ghost use Rattle.hub_glob.specs.Writing.{pattern_text};
 ghost use Rattle.hub_profile.specs.Parts.{Parts};
+ghost use Rattle.hub_profile.specs.Reading.{profile_in};
 ghost use Rattle.hub_profile.specs.declared.rule.Rule.{Rule};
 ghost use Rattle.hub_reach.specs.Safe.{IsSafe};
-ghost use Rattle.hub_unison.specs.Matching.{surely, perhaps, IsMatching};
+ghost use Rattle.hub_unison.specs.Matching.{line_matches, IsMatching};
 ghost use Rattle.hub_unison.specs.ReadingOf.{is_read_back, reading_of, IsWithinLines};
 ghost use Rattle.hub_unison.specs.Rules.{AreReadForUnison, KeepsRulesInUnison, forbidden};
+ghost use Rattle.hub_unison.specs.Shared.{ShareNoArchive, shared_pairs};
 ghost use Rattle.hub_unison.specs.UnisonReach.{IsSafeInUnison};
+ghost use Rattle.hub_unison.specs.Written.{IsWrittenAs, Written, written_of};
 
 use hub_glob::PATTERN_CHARACTERS;
 use hub_glob::laws::readable_specifications_are_read_back;
 
-/// If the readings of some profiles beside rules are a safe set with these, no two of the profiles clash in Unison, and by none of
-/// them Unison breaks a rule.
+/// If the readings of some profiles beside rules are a safe set with these, by none of the profiles Unison breaks a rule. If no two
+/// of the readings have the same two roots, either, no two of the profiles clash in Unison, however the run of each matches paths by
+/// the texts of its lines, and no two different roots of them are nested.
 pub fn safe_readings_are_safe_in_unison()
-    ensures safe { (Ps Cs : List Parts) (Rs : List Rule) → AreReadForUnison Ps Rs Cs
-        → IsSafe Cs (map forbidden Rs) → IsSafeInUnison Ps }
-    ensures kept { (Ps Cs : List Parts) (Rs : List Rule) → AreReadForUnison Ps Rs Cs
-        → IsSafe Cs (map forbidden Rs) → KeepsRulesInUnison Ps Rs }
+    ensures safe { (Ws : List Written) (Cs : List Parts) (Rs : List Rule)
+        → AreReadForUnison Ws Rs Cs → IsSafe Cs (map forbidden Rs) → ShareNoArchive Cs
+        → IsSafeInUnison Ws }
+    ensures kept { (Ws : List Written) (Cs : List Parts) (Rs : List Rule)
+        → AreReadForUnison Ws Rs Cs → IsSafe Cs (map forbidden Rs) → KeepsRulesInUnison Ws Rs }
 {}
 
-/// What Unison matches for certain, hubsync matches, and what hubsync matches, Unison may match. So hubsync's reading is one
-/// of those that Unison may have.
-#[tactic(auto, using(crate::specs::laws::Pattern::matches_is_matching))]
+/// What Unison matches by a line for certain, hubsync matches, and what hubsync matches, Unison may match. So hubsync's reading of
+/// lines is one of those that Unison may have.
+#[tactic(auto, using(crate::specs::laws::Pattern::line_matches_is_matching))]
 pub fn hubsync_matches_as_unison_may()
-    ensures { IsMatching matches }
+    ensures { IsMatching line_matches }
 {}
 
 /// A specification is read from its own text, if its written pattern has at most `PATTERN_CHARACTERS` characters. So a reading
@@ -40,6 +44,18 @@ pub fn short_specifications_are_read_back()
 {
     readable_specifications_are_read_back();
 }
+
+/// What hubsync reads of a profile's bytes is spelled by the lines in these that set `ignore`, `ignorenot`, `nodeletionpartial`,
+/// `noupdatepartial` and `nocreationpartial`, one by one.
+pub fn profiles_are_written_in_their_lines()
+    ensures { (name : Name) (bytes : List ℕ) (P : Parts) → profile_in name bytes ≡ Ok P
+        → IsWrittenAs (written_of P bytes) P }
+{}
+
+/// If no pair is shared, no two of the profiles have the same two roots.
+pub fn no_shared_pair_shares_no_archive()
+    ensures { (Ps : List Parts) → shared_pairs Ps ≡ [] → ShareNoArchive Ps }
+{}
 
 /// A reading has at most as many `ignore` and `ignorenot` lines together as a profile may have, if its profile has.
 #[tactic(auto, using(crate::specs::laws::Limit::readings_within))]

@@ -3,6 +3,7 @@ ghost use Rattle.std.specs.Prelude.{◌≡◌, IfOk, true};
 ghost use Rattle.hub_unison.specs.Cautious as cautious;
 ghost use Rattle.hub_unison.specs.ReadingOf as reading;
 ghost use Rattle.hub_unison.specs.UnisonReach as unison;
+ghost use Rattle.hub_unison.specs.Written.{IsWrittenAs, Written};
 
 use crate::kept::{cut_lines, kept_bars, kept_lines, spared_lines};
 use crate::tops::{is_starred, top_values};
@@ -11,7 +12,7 @@ use hub_text::Items;
 use std::alloc::{AllocError, Global};
 
 /// Returns the cautious reading of a profile: one that for hubsync reaches and writes at least what the profile reaches and
-/// writes in Unison 2.52, however that matches patterns within what is known of it.
+/// writes in Unison 2.52, however that matches paths by the texts of its lines within what is known of it.
 ///
 /// Of the `ignore` lines it keeps those that are plain, and those that are plain without one of their `*`: what such a line
 /// matches without it is spared by an `ignorenot` line, unless another `ignore` line is plain and has just this pattern, or an
@@ -21,7 +22,8 @@ use std::alloc::{AllocError, Global};
 /// ignored either, and the parent of this value is kept. All else stays, and so does a profile that hubsync and Unison read alike.
 pub fn cautious(alloc: Global, profile: Profile) -> Result<Profile, AllocError>
     ensures value { IfOk result (λ r. r ≡ reading.cautious_of profile) }
-    ensures wide { IfOk result (λ r. unison.IsCautious profile r) }
+    ensures wide { IfOk result (λ r. (W : Written) → IsWrittenAs W profile
+        → unison.IsCautious W r) }
     ensures alike { reading.is_read_alike profile ≡ true → IfOk result (λ r. r ≡ profile) }
     ensures within { reading.IsWithinLines profile → IfOk result (λ r. reading.IsWithinLines r) }
 {

@@ -1,7 +1,8 @@
 //! The readings of a set's profiles.
-ghost use Rattle.std.specs.Prelude.{◌≡◌, IfOk, map};
+ghost use Rattle.std.specs.Prelude.{◌≡◌, IfOk, List, map};
 ghost use Rattle.hub_unison.specs.ReadingOf as reading;
 ghost use Rattle.hub_unison.specs.Rules as unison;
+ghost use Rattle.hub_unison.specs.Written.{AreWrittenAs, Written};
 
 use crate::reading::cautious;
 use crate::tops::top_values;
@@ -13,15 +14,16 @@ use std::alloc::{AllocError, Global};
 /// Beside rules each is one that is wider still, since Unison breaks rules at more paths than it carries out items at: it
 /// ignores nothing, has no bars on paths, and `nocreation` only where it has `noupdate` of the same root.
 ///
-/// If the readings and the rules are a safe set, no two of the profiles clash in Unison, and by none of them Unison breaks a rule
-/// ([`crate::laws`]).
+/// If the readings and the rules are a safe set, by none of the profiles Unison breaks a rule. If no two have the same two roots
+/// ([`crate::shared_archives`]), either, no two of them clash in Unison ([`crate::laws`]).
 pub fn read_set(
     alloc: Global,
     profiles: Items<Profile>,
     rules: &Rules,
 ) -> Result<Items<Profile>, AllocError>
     ensures value { IfOk result (λ rs. rs ≡ map (reading.reading_of rules.now) profiles) }
-    ensures wide { IfOk result (unison.AreReadForUnison profiles rules.now) }
+    ensures wide { IfOk result (λ rs. (Ws : List Written) → AreWrittenAs Ws profiles
+        → unison.AreReadForUnison Ws rules.now rs) }
 {
     read_all(alloc, profiles, rules)
 }

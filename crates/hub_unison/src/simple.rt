@@ -30,7 +30,7 @@ pub(crate) fn is_simple_piece(piece: &Piece) -> bool
     ensures { result ≡ matching.is_simple piece.now }
 {
     match piece {
-        Piece::Lit(c) => *c != '>',
+        Piece::Lit(c) => !is_unknown(*c),
         Piece::Any => false,
         Piece::Run => true,
         Piece::OneOf(set) => are_simple_members(set.as_slice()),
@@ -60,7 +60,7 @@ fn is_known_piece(piece: &Piece) -> bool
     ensures { result ≡ matching.is_known piece.now }
 {
     match piece {
-        Piece::Lit(c) => *c != '>',
+        Piece::Lit(c) => !is_unknown(*c),
         Piece::Any => true,
         Piece::Run => true,
         Piece::OneOf(set) => !has_odd(set.as_slice()),
@@ -89,5 +89,13 @@ fn is_simple_member(c: char) -> bool
 fn is_odd(c: char) -> bool
     ensures { result ≡ matching.is_odd c }
 {
-    matches!(c, ',' | '>' | '[' | '\\' | ']' | '{' | '}')
+    is_unknown(c) || matches!(c, ',' | '[' | '\\' | ']' | '{' | '}')
+}
+
+/// Returns whether it isn't known what Unison makes of the character anywhere in a pattern: a `>`, since ` -> ` ends the pattern,
+/// or a control character, since each CR at an end of it is dropped (observed with Unison 2.52.1).
+fn is_unknown(c: char) -> bool
+    ensures { result ≡ matching.is_unknown c }
+{
+    c == '>' || c.is_ascii_control()
 }

@@ -2,6 +2,7 @@
 ghost use Rattle.std.specs.Prelude.{◌≡◌, [], ◌∷◌, chars, IfOk};
 ghost use Rattle.hub_glob.specs.declared.piece.Part.TheVariants.{Brace};
 ghost use Rattle.hub_glob.specs.contracts.path_spec.PathSpecPartialEq.TheImpl as tested;
+ghost use Rattle.hub_unison.specs.Lines.{spelled};
 ghost use Rattle.hub_unison.specs.ReadingOf as reading;
 
 use hub_glob::{GlobFault, Kind, Part, PathSpec, Piece, text_of};
@@ -53,7 +54,7 @@ fn is_made_of(spec: &PathSpec, kind: Kind, pattern: &[Part]) -> bool
 
 /// Reads a specification, if the text is one.
 fn read(alloc: Global, text: &str) -> Result<Option<PathSpec>, AllocError>
-    ensures { IfOk result (λ o. o ≡ reading.spelled (chars text.now)) }
+    ensures { IfOk result (λ o. o ≡ spelled (chars text.now)) }
 {
     match PathSpec::read(alloc, text) {
         Ok(spec) => Ok(Some(spec)),

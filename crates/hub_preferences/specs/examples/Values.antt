@@ -1,11 +1,13 @@
 -- Worked values of a cautious reading. What Unison does was observed with 2.52.1.
-use Rattle.std.specs.Prelude.{⊤, ◌≡◌, ℕ, List, [], ◌∷◌, ◌++◌, Some, codes, refl}
+use Rattle.std.specs.Prelude.{⊤, ◌≡◌, ℕ, List, [], ◌∷◌, ◌++◌, Some, None, codes, refl}
 use Rattle.std.specs.Str.{is_utf8, chars}
 use Rattle.hub_path.specs.declared.fault.PathFault.TheVariants as path
 use Rattle.hub_profile.specs.declared.fault.Fault.{Fault}
 use Rattle.hub_profile.specs.declared.fault.Fault.TheVariants as fault
 use Rattle.hub_preferences.specs.Counted.{counted_bundle}
 use Rattle.hub_preferences.specs.Findings.{findings_of, fault_alone}
+use Rattle.hub_preferences.specs.Table.{effect_named}
+use Rattle.hub_preferences.specs.declared.table.Effect.TheVariants.{AddsChanges, HoldsBack, NoInfluence, WritesElsewhere}
 use Rattle.hub_preferences.specs.declared.finding.Finding.{Finding}
 use Rattle.hub_preferences.specs.declared.finding.Outcome.TheVariants.{LeftOut, Refused}
 
@@ -118,6 +120,49 @@ refused_lines_stay : counted_of (codes "follow = Path a\nmerge = Name * -> m\nat
 unfolding computed
 refused_lines_stay = refl
 
+-- A prefix or a suffix with a `/` moves the copies to another folder: the line stays, and is refused.
+-- So is a file for new lines that isn't named alone. On some hosts `\` and `:` separate names, too.
+parts_of_names : counted_of (codes "backupprefix = .bak.$VERSION.\nbackupsuffix = ~\naddprefsto = common\nbackupprefix =\n") ≡ of (codes "#ackupprefix = .bak.$VERSION.\n#ackupsuffix = ~\n#ddprefsto = common\n#ackupprefix =\n")
+unfolding computed
+parts_of_names = refl
+
+separators_are_refused : counted_of (codes "backupprefix = ../../../hub/docs/$VERSION.\nbackupprefix = sub/$VERSION.\nbackupsuffix = /$VERSION\naddprefsto = /hub/l\naddprefsto = ..\\l\nbackupsuffix = :x\n") ≡ of (codes "backupprefix = ../../../hub/docs/$VERSION.\nbackupprefix = sub/$VERSION.\nbackupsuffix = /$VERSION\naddprefsto = /hub/l\naddprefsto = ..\\l\nbackupsuffix = :x\n")
+unfolding computed
+separators_are_refused = refl
+
+-- A log in Unison's own folder, or at a place outside of all roots, doesn't count.
+abbrev two_profiles : List ℕ → List ℕ
+two_profiles lines = codes "%profile a\nroot = /srv/hub\nroot = /srv/a\n%profile b\nroot = /srv/b\n" ++ lines
+
+apart_logs : counted_bundle (two_profiles (codes "logfile = my.log\nlogfile = /srv/log\nlogfile = /srv/hub2/log/\nlogfile = /srv\nlogfile = /x/srv/hub/l\n")) ≡ two_profiles (codes "#ogfile = my.log\n#ogfile = /srv/log\n#ogfile = /srv/hub2/log/\n#ogfile = /srv\n#ogfile = /x/srv/hub/l\n")
+unfolding computed
+apart_logs = refl
+
+-- One in a root of any profile is refused, and so is one of which it can't be known: by another spelling
+-- of the root, or a place that depends on where Unison's folder is.
+logs_in_roots : counted_bundle (two_profiles (codes "logfile = /srv/hub/docs/l\nlogfile=/srv/a\n logfile = /srv/b/l\r\n")) ≡ two_profiles (codes "logfile in a root =\nlogfile in a root =\nlogfile in a root =\n")
+unfolding computed
+logs_in_roots = refl
+
+unknown_logs : counted_bundle (two_profiles (codes "logfile = ../l\nlogfile = sub/l\nlogfile = ./l\nlogfile =\nlogfile = ..\nlogfile = /srv/./hub/l\nlogfile = /srv//hub/l\nlogfile = /x/../srv/hub/l\nlogfile = //srv/hub/l\nlogfile = C:\\hub\\l\n")) ≡ two_profiles (codes "logfile in a root =\nlogfile in a root =\nlogfile in a root =\nlogfile in a root =\nlogfile in a root =\nlogfile in a root =\nlogfile in a root =\nlogfile in a root =\nlogfile in a root =\nlogfile in a root =\n")
+unfolding computed
+unknown_logs = refl
+
+-- The root of a profile below counts, too, and `/` is over each place.
+roots_below_count : counted_bundle (codes "%profile a\nlogfile = /srv/b/l\nroot = /srv/a\n%profile b\nroot = /srv/b/\n") ≡ codes "%profile a\nlogfile in a root =\nroot = /srv/a\n%profile b\nroot = /srv/b/\n"
+unfolding computed
+roots_below_count = refl
+
+top_root : counted_bundle (codes "%profile a\nroot = /\nlogfile = /l\nlogfile = l\n") ≡ codes "%profile a\nroot = /\nlogfile in a root =\n#ogfile = l\n"
+unfolding computed
+top_root = refl
+
+-- A folder for the copies is refused wherever it is: below a root of another host it has another name
+-- here.
+folders_for_copies_stay : counted_bundle (two_profiles (codes "backupdir = /srv/hub/b\nbackupdir = /srv\nbackupdir = /srv/hub2\nbackupdir = /x\n")) ≡ two_profiles (codes "backupdir = /srv/hub/b\nbackupdir = /srv\nbackupdir = /srv/hub2\nbackupdir = /x\n")
+unfolding computed
+folders_for_copies_stay = refl
+
 -- No line of another section changes, nor one above all headings.
 other_sections_stay : counted_bundle (codes "prefer = a\n%rules\nprefer = a\n%state\nlinks = false\n%profile\nlinks = false\n%certificates\nforce = newer") ≡ codes "prefer = a\n%rules\nprefer = a\n%state\nlinks = false\n%profile\nlinks = false\n%certificates\nforce = newer"
 unfolding computed
@@ -183,3 +228,15 @@ includes_are_refused = refl
 other_spellings_are_read : found_in (codes "path = ./a\npath = a//b\npath = ./..\n") ≡ refused 4 (fault.BadPath path.DotName) ∷ []
 unfolding computed
 other_spellings_are_read = refl
+
+-- A log in a root is refused by what stands in its place.
+logs_are_found : found_in (codes "root = /srv/hub\nlogfile = /srv/hub/l\nlogfile = /srv/l\nbackupprefix = a/b\n") ≡ refused 3 (fault.UnknownPreference (codes "logfile in a root")) ∷ left_out 4 ∷ refused 5 (fault.UnknownPreference (codes "backupprefix")) ∷ []
+unfolding computed
+logs_are_found = refl
+
+-- What Unison may do by a line, by the name of its preference.
+backups_write_elsewhere : effect_named (codes "backup") ≡ Some WritesElsewhere
+backups_write_elsewhere = refl
+
+other_effects : (effect_named (codes "force") ≡ Some HoldsBack) × (effect_named (codes "height") ≡ Some NoInfluence) × (effect_named (codes "follow") ≡ Some AddsChanges) × (effect_named (codes "Backup") ≡ None)
+other_effects = (refl, refl, refl, refl)

@@ -1,6 +1,6 @@
 -- Lines in another spelling.
-use Rattle.std.proofs.Common.{◌≡◌, ℕ, ◌<◌, ◌==◌, Bool, true, false, ◌&&◌, ◌||◌, not, cond, List, [], ◌∷◌, ◌++◌, length, reverse, Some, None, refl, sym, ap, subst, ◌∙◌, arith, append_assoc, append-nil, lit<, codes, bytes_eq}
-use Rattle.std.specs.Prelude.{Ok, encode_utf8_all}
+use Rattle.std.proofs.Common.{◌≡◌, ◌⊎◌, ⊎_elim, inl, inr, ℕ, ◌<◌, ◌==◌, Bool, true, false, ◌&&◌, ◌||◌, not, cond, List, [], ◌∷◌, ◌++◌, length, reverse, Some, None, refl, sym, ap, subst, ◌∙◌, arith, append_assoc, append-nil, lit<, codes, bytes_eq}
+use Rattle.std.specs.Prelude.{⊤, Ok, encode_utf8_all}
 use Rattle.std.specs.List.{list_any, list_all, filter}
 use Rattle.std.specs.Char.{encode_utf8}
 use Rattle.std.specs.Str.{IsUtf8, is_utf8, chars, all_scalars}
@@ -23,8 +23,9 @@ use Rattle.hub_path.specs.laws.ReadBack.{path_reading-short}
 use Rattle.hub_profile.specs.Reading.{kept_reading}
 use Rattle.hub_bundle.specs.Files.{is_heading}
 use Rattle.hub_profile.specs.Lines.{trimmed, trimmed_line, is_setting, has_equals, name_and_value, is_one_of}
-use Rattle.hub_preferences.specs.Kinds.{kind_of, kind_of_text, kind_of_pair}
-use Rattle.hub_preferences.specs.Spellings.{is_nothing, names_of, with_slashes, begins_with_blank, is_same_value, can_stand_for, is_respelled, path_line, spelling, spelling_of_text, spelling_of_pair, spelling_of_value}
+use Rattle.hub_preferences.specs.Kinds.{kind_of, kind_of_text, kind_of_pair, is_in_root}
+use Rattle.hub_preferences.specs.Places.{root_on, root_in_text, root_of_pair}
+use Rattle.hub_preferences.specs.Spellings.{is_nothing, names_of, with_slashes, begins_with_blank, is_same_value, can_stand_for, is_respelled, path_line, spelling, spelling_of_text, spelling_of_pair, spelling_of_value, refused_line, other_spelling}
 use Rattle.hub_preferences.specs.declared.kind.LineKind.TheVariants as kind
 
 -- What the parts are of names with a slash after each.
@@ -199,20 +200,18 @@ sets-line (n ∷ ns) =
     ∙ rw (is_set (codes "ath = " ++ end.0 ++ 47 ∷ [])) refl
 
 -- What holds of the other spelling of a line.
-pub record IsSpelling (l t : List ℕ) : Type 0 where
+pub record IsSpelling (rs : List Path) (l t : List ℕ) : Type 0 where
   pub some : 0 < length t
   pub no_lf : list_any is_lf t ≡ false
   pub plain : is_heading t ≡ false
-  pub quiet : kind_of t ≡ kind.Stays
-  pub before : kind_of l ≡ kind.Stays
+  pub quiet : kind_of rs t ≡ kind.Stays
   pub last : spelling t ≡ None
+  pub rootless : root_on t ≡ None
+  pub before : root_on l ≡ None
 
-kind-path : (v : List ℕ) → kind_of_pair (codes "path", v) ≡ kind.Stays
-kind-path v = refl
-
-path-line : (l : List ℕ) (ns : Path) → kind_of l ≡ kind.Stays → is_place ns ≡ true → begins_with_blank (with_slashes ns) ≡ false
-    → IsSpelling l (codes "path = " ++ encode_utf8_all (with_slashes ns))
-path-line l ns before h plain =
+path-line : (rs : List Path) (l : List ℕ) (ns : Path) → root_on l ≡ None → is_place ns ≡ true → begins_with_blank (with_slashes ns) ≡ false
+    → IsSpelling rs l (codes "path = " ++ encode_utf8_all (with_slashes ns))
+path-line rs l ns before h plain =
     let t = codes "path = " ++ encode_utf8_all (with_slashes ns) in
     let text : is_utf8 t ≡ true = is_utf8-from_IsUtf8 t (text-line ns h) in
     let said = chars-line ns h in
@@ -222,9 +221,10 @@ path-line l ns before h plain =
       some = omega arith;
       no_lf = no_lf-apart (encode_utf8_all (with_slashes ns)) (apart-encodes (with_slashes ns) (no_lf-with ns h));
       plain = refl;
-      quiet = rw text (ap (λ cs. kind_of_text (trimmed_line cs)) said ∙ rw sets (ap kind_of_pair pair));
-      before = before;
+      quiet = rw text (ap (λ cs. kind_of_text rs (trimmed_line cs)) said ∙ rw sets (ap (kind_of_pair rs) pair));
       last = rw text (ap (λ cs. spelling_of_text (trimmed_line cs)) said ∙ rw sets (ap spelling_of_pair pair ∙ rw (fixed ns h) refl));
+      rootless = rw text (ap (λ cs. root_in_text (trimmed_line cs)) said ∙ rw sets (ap root_of_pair pair));
+      before = before;
     }
 
 -- What a line is that has another spelling.
@@ -238,61 +238,135 @@ flip : (b : Bool) → not b ≡ true → b ≡ false
 flip true h = cc
 flip false h = refl
 
-of_value : (l v t : List ℕ) → kind_of l ≡ kind.Stays → spelling_of_value v ≡ Some t → IsSpelling l t
-of_value l v t before e = by (is_respelled v) refl
+or_false : (b : Bool) → b || false ≡ true → b ≡ true
+or_false true h = refl
+or_false false h = h
+
+of_value : (rs : List Path) (l v t : List ℕ) → root_on l ≡ None → spelling_of_value v ≡ Some t → IsSpelling rs l t
+of_value rs l v t before e = by (is_respelled v) refl
   where
-    by : (b : Bool) → is_respelled v ≡ b → IsSpelling l t
+    by : (b : Bool) → is_respelled v ≡ b → IsSpelling rs l t
     by true h =
         let w = with_slashes (names_of v) in
         let one = and_parts (not (begins_with_slash v)) (is_place (names_of v) && can_stand_for w v) h in
         let two = and_parts (is_place (names_of v)) (can_stand_for w v) one.1 in
         let three = and_parts (not (begins_with_blank w)) (not (is_same_value w v)) two.1 in
         let whole : spelling_of_value v ≡ Some (path_line v) = rw h refl in
-        subst (IsSpelling l) (inside (path_line v) t (sym whole ∙ e))
-        (path-line l (names_of v) before two.0 (flip (begins_with_blank w) three.0))
+        subst (IsSpelling rs l) (inside (path_line v) t (sym whole ∙ e))
+        (path-line rs l (names_of v) before two.0 (flip (begins_with_blank w) three.0))
     by false h =
         let whole : spelling_of_value v ≡ None = rw h refl in
         none_is_some t (sym whole ∙ e)
 
-of_pair : (l : List ℕ) (pair : List ℕ × List ℕ) (t : List ℕ) → kind_of l ≡ kind_of_pair pair → spelling_of_pair pair ≡ Some t → IsSpelling l t
-of_pair l pair t before e = by (is_one_of (codes "path" ∷ []) pair.0) refl
+of_pair : (rs : List Path) (l : List ℕ) (pair : List ℕ × List ℕ) (t : List ℕ) → root_on l ≡ root_of_pair pair → spelling_of_pair pair ≡ Some t → IsSpelling rs l t
+of_pair rs l pair t before e = by (is_one_of (codes "path" ∷ []) pair.0) refl
   where
-    by : (b : Bool) → is_one_of (codes "path" ∷ []) pair.0 ≡ b → IsSpelling l t
+    by : (b : Bool) → is_one_of (codes "path" ∷ []) pair.0 ≡ b → IsSpelling rs l t
     by true h =
         let named : pair.0 ≡ codes "path" = (bytes_eq-Decides pair.0 (codes "path")).0 (or_false (bytes_eq pair.0 (codes "path")) h) in
         let whole : spelling_of_pair pair ≡ spelling_of_value pair.1 = rw h refl in
-        of_value l pair.1 t (before ∙ ap (λ n. kind_of_pair (n, pair.1)) named) (sym whole ∙ e)
-      where
-        or_false : (b : Bool) → b || false ≡ true → b ≡ true
-        or_false true h = refl
-        or_false false h = h
+        of_value rs l pair.1 t (before ∙ ap (λ n. root_of_pair (n, pair.1)) named) (sym whole ∙ e)
     by false h =
         let whole : spelling_of_pair pair ≡ None = rw h refl in
         none_is_some t (sym whole ∙ e)
 
-of_text : (l s t : List ℕ) → kind_of l ≡ kind_of_text s → spelling_of_text s ≡ Some t → IsSpelling l t
-of_text l s t before e = by (is_setting s && has_equals s) refl
+of_text : (rs : List Path) (l s t : List ℕ) → root_on l ≡ root_in_text s → spelling_of_text s ≡ Some t → IsSpelling rs l t
+of_text rs l s t before e = by (is_setting s && has_equals s) refl
   where
-    by : (b : Bool) → is_setting s && has_equals s ≡ b → IsSpelling l t
+    by : (b : Bool) → is_setting s && has_equals s ≡ b → IsSpelling rs l t
     by true h =
         let whole : spelling_of_text s ≡ spelling_of_pair (name_and_value s) = rw h refl in
-        let said : kind_of_text s ≡ kind_of_pair (name_and_value s) = rw h refl in
-        of_pair l (name_and_value s) t (before ∙ said) (sym whole ∙ e)
+        let said : root_in_text s ≡ root_of_pair (name_and_value s) = rw h refl in
+        of_pair rs l (name_and_value s) t (before ∙ said) (sym whole ∙ e)
     by false h =
         let whole : spelling_of_text s ≡ None = rw h refl in
         none_is_some t (sym whole ∙ e)
 
-pub spelling-is : (l t : List ℕ) → spelling l ≡ Some t → IsSpelling l t
-spelling-is l t e = by (is_utf8 l) refl
+pub spelling-is : (rs : List Path) (l t : List ℕ) → spelling l ≡ Some t → IsSpelling rs l t
+spelling-is rs l t e = by (is_utf8 l) refl
   where
-    by : (b : Bool) → is_utf8 l ≡ b → IsSpelling l t
+    by : (b : Bool) → is_utf8 l ≡ b → IsSpelling rs l t
     by true h =
         let whole : spelling l ≡ spelling_of_text (trimmed_line (chars l)) = rw h refl in
-        let said : kind_of l ≡ kind_of_text (trimmed_line (chars l)) = rw h refl in
-        of_text l (trimmed_line (chars l)) t said (sym whole ∙ e)
+        let said : root_on l ≡ root_in_text (trimmed_line (chars l)) = rw h refl in
+        of_text rs l (trimmed_line (chars l)) t said (sym whole ∙ e)
     by false h =
         let whole : spelling l ≡ None = rw h refl in
         none_is_some t (sym whole ∙ e)
+
+-- The line in the place of one that names a file that may lie in a root.
+computed : ⊤
+unfolding is_utf8 chars lib.Utf8.encode
+computed = tt
+
+quiet-refused : (rs : List Path) → kind_of rs refused_line ≡ kind.Stays
+unfolding computed
+quiet-refused rs = refl
+
+last-refused : spelling refused_line ≡ None
+unfolding computed
+last-refused = refl
+
+rootless-refused : root_on refused_line ≡ None
+unfolding computed
+rootless-refused = refl
+
+-- A line that sets a root stays.
+root-pair : (rs : List Path) (pair : List ℕ × List ℕ) → (root_of_pair pair ≡ None) ⊎ (kind_of_pair rs pair ≡ kind.Stays)
+root-pair rs pair = by (is_one_of (codes "root" ∷ []) pair.0) refl
+  where
+    by : (b : Bool) → is_one_of (codes "root" ∷ []) pair.0 ≡ b → (root_of_pair pair ≡ None) ⊎ (kind_of_pair rs pair ≡ kind.Stays)
+    by true h =
+        let named : pair.0 ≡ codes "root" = (bytes_eq-Decides pair.0 (codes "root")).0 (or_false (bytes_eq pair.0 (codes "root")) h) in
+        inr (ap (λ n. kind_of_pair rs (n, pair.1)) named)
+    by false h = inl (rw h refl)
+
+root-text : (rs : List Path) (s : List ℕ) → (root_in_text s ≡ None) ⊎ (kind_of_text rs s ≡ kind.Stays)
+root-text rs s = by (is_setting s && has_equals s) refl
+  where
+    by : (b : Bool) → is_setting s && has_equals s ≡ b → (root_in_text s ≡ None) ⊎ (kind_of_text rs s ≡ kind.Stays)
+    by true h =
+        let root : root_in_text s ≡ root_of_pair (name_and_value s) = rw h refl in
+        let kind_is : kind_of_text rs s ≡ kind_of_pair rs (name_and_value s) = rw h refl in
+        ⊎_elim (λ e. inl (root ∙ e)) (λ e. inr (kind_is ∙ e)) (root-pair rs (name_and_value s))
+    by false h = inl (rw h refl)
+
+pub root-stays : (rs : List Path) (l : List ℕ) → (root_on l ≡ None) ⊎ (kind_of rs l ≡ kind.Stays)
+root-stays rs l = by (is_utf8 l) refl
+  where
+    by : (b : Bool) → is_utf8 l ≡ b → (root_on l ≡ None) ⊎ (kind_of rs l ≡ kind.Stays)
+    by true h =
+        let root : root_on l ≡ root_in_text (trimmed_line (chars l)) = rw h refl in
+        let kind_is : kind_of rs l ≡ kind_of_text rs (trimmed_line (chars l)) = rw h refl in
+        ⊎_elim (λ e. inl (root ∙ e)) (λ e. inr (kind_is ∙ e)) (root-text rs (trimmed_line (chars l)))
+    by false h = inl (rw h refl)
+
+in_root-rootless : (rs : List Path) (l : List ℕ) → is_in_root (kind_of rs l) ≡ true → root_on l ≡ None
+in_root-rootless rs l h =
+    ⊎_elim (λ e. e) (λ q. absurd (false≢true (sym (ap is_in_root q) ∙ h))) (root-stays rs l)
+
+of_refused : (rs : List Path) (l : List ℕ) → is_in_root (kind_of rs l) ≡ true → IsSpelling rs l refused_line
+of_refused rs l h = record {
+  some = omega arith;
+  no_lf = refl;
+  plain = refl;
+  quiet = quiet-refused rs;
+  last = last-refused;
+  rootless = rootless-refused;
+  before = in_root-rootless rs l h;
+}
+
+-- What a line is in the place of another one.
+pub other_spelling-is : (rs : List Path) (l t : List ℕ) → other_spelling rs l ≡ Some t → IsSpelling rs l t
+other_spelling-is rs l t e = by (is_in_root (kind_of rs l)) refl
+  where
+    by : (b : Bool) → is_in_root (kind_of rs l) ≡ b → IsSpelling rs l t
+    by true h =
+        let whole : other_spelling rs l ≡ Some refused_line = rw h refl in
+        subst (IsSpelling rs l) (inside refused_line t (sym whole ∙ e)) (of_refused rs l h)
+    by false h =
+        let whole : other_spelling rs l ≡ spelling l = rw h refl in
+        spelling-is rs l t (sym whole ∙ e)
 
 -- Of the other spelling the plain reader reads the names.
 joined : (n : Name) (p : Path) → with_slashes (n ∷ p) ≡ text_of (n ∷ p) ++ 47 ∷ []

@@ -1,37 +1,14 @@
 //! The preferences by which Unison changes less, or with some values more.
 
-use crate::table::{Preference, Rule, Source};
+use crate::table::{Effect, Preference, Rule, Source};
 
 /// The preferences by which Unison changes less, or with some values more. As in all tables here, each has the name that Unison 2.52.1 takes.
-pub const CHANGES: [(&str, Preference); 25] = [
-    (
-        "backuploc",
-        Preference {
-            rule: Rule::LeftOutIfCentral,
-            reason: "local backups lie beside the files",
-            source: Source::Trial,
-        },
-    ),
-    (
-        "backuplocation",
-        Preference {
-            rule: Rule::LeftOutIfCentral,
-            reason: "local backups lie beside the files",
-            source: Source::Trial,
-        },
-    ),
-    (
-        "backups",
-        Preference {
-            rule: Rule::LeftOutIfOff,
-            reason: "the copies may lie beside the files",
-            source: Source::Trial,
-        },
-    ),
+pub const CHANGES: [(&str, Preference); 22] = [
     (
         "copyonconflict",
         Preference {
             rule: Rule::LeftOutIfOff,
+            effect: Effect::AddsChanges,
             reason: "it writes copies beside the files, at each root",
             source: Source::Trial,
         },
@@ -40,6 +17,7 @@ pub const CHANGES: [(&str, Preference); 25] = [
         "fat",
         Preference {
             rule: Rule::LeftOutIfOff,
+            effect: Effect::AddsChanges,
             reason: "two spellings of a name are one",
             source: Source::Trial,
         },
@@ -48,6 +26,7 @@ pub const CHANGES: [(&str, Preference); 25] = [
         "force",
         Preference {
             rule: Rule::Force,
+            effect: Effect::HoldsBack,
             reason: "its root is not written; newer, older and an empty value name no root",
             source: Source::Trial,
         },
@@ -56,6 +35,7 @@ pub const CHANGES: [(&str, Preference); 25] = [
         "forcepartial",
         Preference {
             rule: Rule::OverridesForce,
+            effect: Effect::AddsChanges,
             reason: "it overrides force where its pattern matches: the force lines are left out as well",
             source: Source::Trial,
         },
@@ -64,6 +44,7 @@ pub const CHANGES: [(&str, Preference); 25] = [
         "ignore",
         Preference {
             rule: Rule::Ignore,
+            effect: Effect::HoldsBack,
             reason: "what it matches is not synchronized",
             source: Source::Trial,
         },
@@ -72,6 +53,7 @@ pub const CHANGES: [(&str, Preference); 25] = [
         "ignorearchives",
         Preference {
             rule: Rule::LeftOut,
+            effect: Effect::HoldsBack,
             reason: "without it, Unison resolves more differences",
             source: Source::Trial,
         },
@@ -80,6 +62,7 @@ pub const CHANGES: [(&str, Preference); 25] = [
         "ignorecase",
         Preference {
             rule: Rule::LeftOutIfOff,
+            effect: Effect::AddsChanges,
             reason: "two spellings of a name are one",
             source: Source::Trial,
         },
@@ -88,6 +71,7 @@ pub const CHANGES: [(&str, Preference); 25] = [
         "ignorelocks",
         Preference {
             rule: Rule::LeftOutIfOff,
+            effect: Effect::AddsChanges,
             reason: "two runs may change one root at the same time",
             source: Source::Trial,
         },
@@ -96,6 +80,7 @@ pub const CHANGES: [(&str, Preference); 25] = [
         "ignorenot",
         Preference {
             rule: Rule::IgnoreNot,
+            effect: Effect::AddsChanges,
             reason: "what it matches is not ignored",
             source: Source::Trial,
         },
@@ -104,6 +89,7 @@ pub const CHANGES: [(&str, Preference); 25] = [
         "immutable",
         Preference {
             rule: Rule::LeftOut,
+            effect: Effect::HoldsBack,
             reason: "without it, all changes are looked for",
             source: Source::Trial,
         },
@@ -112,7 +98,8 @@ pub const CHANGES: [(&str, Preference); 25] = [
         "immutablenot",
         Preference {
             rule: Rule::LeftOut,
-            reason: "without it, all changes are looked for",
+            effect: Effect::NoInfluence,
+            reason: "what it takes back is left out",
             source: Source::Trial,
         },
     ),
@@ -120,6 +107,7 @@ pub const CHANGES: [(&str, Preference); 25] = [
         "links",
         Preference {
             rule: Rule::LeftOut,
+            effect: Effect::HoldsBack,
             reason: "without it, links are synchronized too",
             source: Source::Trial,
         },
@@ -128,6 +116,7 @@ pub const CHANGES: [(&str, Preference); 25] = [
         "maxerrors",
         Preference {
             rule: Rule::LeftOut,
+            effect: Effect::HoldsBack,
             reason: "without it, Unison transfers more",
             source: Source::Trial,
         },
@@ -136,6 +125,7 @@ pub const CHANGES: [(&str, Preference); 25] = [
         "maxsizethreshold",
         Preference {
             rule: Rule::LeftOut,
+            effect: Effect::HoldsBack,
             reason: "without it, Unison transfers more",
             source: Source::Trial,
         },
@@ -144,6 +134,7 @@ pub const CHANGES: [(&str, Preference); 25] = [
         "mountpoint",
         Preference {
             rule: Rule::LeftOut,
+            effect: Effect::HoldsBack,
             reason: "without it, Unison doesn't stop",
             source: Source::Trial,
         },
@@ -152,6 +143,7 @@ pub const CHANGES: [(&str, Preference); 25] = [
         "nocreationpartial",
         Preference {
             rule: Rule::PartialBar,
+            effect: Effect::HoldsBack,
             reason: "it forbids changes at some paths of a root",
             source: Source::Trial,
         },
@@ -160,6 +152,7 @@ pub const CHANGES: [(&str, Preference); 25] = [
         "nodeletionpartial",
         Preference {
             rule: Rule::PartialBar,
+            effect: Effect::HoldsBack,
             reason: "it forbids changes at some paths of a root",
             source: Source::Trial,
         },
@@ -168,6 +161,7 @@ pub const CHANGES: [(&str, Preference); 25] = [
         "noupdatepartial",
         Preference {
             rule: Rule::PartialBar,
+            effect: Effect::HoldsBack,
             reason: "it forbids changes at some paths of a root",
             source: Source::Trial,
         },
@@ -176,6 +170,7 @@ pub const CHANGES: [(&str, Preference); 25] = [
         "prefer",
         Preference {
             rule: Rule::LeftOut,
+            effect: Effect::NoInfluence,
             reason: "it decides conflicts alone",
             source: Source::Trial,
         },
@@ -184,6 +179,7 @@ pub const CHANGES: [(&str, Preference); 25] = [
         "preferpartial",
         Preference {
             rule: Rule::OverridesForce,
+            effect: Effect::AddsChanges,
             reason: "it overrides force where its pattern matches: the force lines are left out as well",
             source: Source::Trial,
         },
@@ -192,6 +188,7 @@ pub const CHANGES: [(&str, Preference); 25] = [
         "rsrc",
         Preference {
             rule: Rule::LeftOutIfOff,
+            effect: Effect::AddsChanges,
             reason: "it writes more files than it names",
             source: Source::Trial,
         },
@@ -200,6 +197,7 @@ pub const CHANGES: [(&str, Preference); 25] = [
         "unicode",
         Preference {
             rule: Rule::LeftOutIfOff,
+            effect: Effect::AddsChanges,
             reason: "two spellings of a name are one",
             source: Source::Trial,
         },

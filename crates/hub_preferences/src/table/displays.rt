@@ -1,21 +1,14 @@
 //! The preferences on what is shown and asked, on when Unison runs, and on how it finds changes.
 
-use crate::table::{Preference, Rule, Source};
+use crate::table::{Effect, Preference, Rule, Source};
 
 /// The preferences on what is shown and asked, on when Unison runs, and on how it finds changes.
-pub const DISPLAYS: [(&str, Preference); 21] = [
-    (
-        "addprefsto",
-        Preference {
-            rule: Rule::LeftOut,
-            reason: "it names a file in Unison's own folder",
-            source: Source::Trial,
-        },
-    ),
+pub const DISPLAYS: [(&str, Preference); 20] = [
     (
         "color",
         Preference {
             rule: Rule::LeftOut,
+            effect: Effect::NoInfluence,
             reason: "it is about what is shown",
             source: Source::Manual,
         },
@@ -24,6 +17,7 @@ pub const DISPLAYS: [(&str, Preference); 21] = [
         "confirmbigdeletes",
         Preference {
             rule: Rule::LeftOut,
+            effect: Effect::NoInfluence,
             reason: "it is about what is asked",
             source: Source::Trial,
         },
@@ -32,6 +26,7 @@ pub const DISPLAYS: [(&str, Preference); 21] = [
         "confirmmerge",
         Preference {
             rule: Rule::LeftOut,
+            effect: Effect::NoInfluence,
             reason: "it is about what is asked",
             source: Source::Manual,
         },
@@ -40,6 +35,7 @@ pub const DISPLAYS: [(&str, Preference); 21] = [
         "debug",
         Preference {
             rule: Rule::LeftOut,
+            effect: Effect::NoInfluence,
             reason: "it is about what is shown",
             source: Source::Trial,
         },
@@ -48,6 +44,7 @@ pub const DISPLAYS: [(&str, Preference); 21] = [
         "diff",
         Preference {
             rule: Rule::LeftOut,
+            effect: Effect::NoInfluence,
             reason: "it is about what is shown",
             source: Source::Trial,
         },
@@ -56,6 +53,7 @@ pub const DISPLAYS: [(&str, Preference); 21] = [
         "dontchmod",
         Preference {
             rule: Rule::LeftOut,
+            effect: Effect::NoInfluence,
             reason: "it is about times, owners or permissions, and forbidden changes include those",
             source: Source::Trial,
         },
@@ -64,6 +62,7 @@ pub const DISPLAYS: [(&str, Preference); 21] = [
         "dumbtty",
         Preference {
             rule: Rule::LeftOut,
+            effect: Effect::NoInfluence,
             reason: "it is about what is shown",
             source: Source::Manual,
         },
@@ -72,6 +71,7 @@ pub const DISPLAYS: [(&str, Preference); 21] = [
         "fastercheckUNSAFE",
         Preference {
             rule: Rule::LeftOut,
+            effect: Effect::NoInfluence,
             reason: "it is about how changes are found",
             source: Source::Trial,
         },
@@ -80,6 +80,7 @@ pub const DISPLAYS: [(&str, Preference); 21] = [
         "height",
         Preference {
             rule: Rule::LeftOut,
+            effect: Effect::NoInfluence,
             reason: "it is about what is shown",
             source: Source::Manual,
         },
@@ -88,6 +89,7 @@ pub const DISPLAYS: [(&str, Preference); 21] = [
         "ignoreinodenumbers",
         Preference {
             rule: Rule::LeftOut,
+            effect: Effect::NoInfluence,
             reason: "it is about how changes are found",
             source: Source::Trial,
         },
@@ -96,6 +98,7 @@ pub const DISPLAYS: [(&str, Preference); 21] = [
         "numericids",
         Preference {
             rule: Rule::LeftOut,
+            effect: Effect::NoInfluence,
             reason: "it is about times, owners or permissions, and forbidden changes include those",
             source: Source::Trial,
         },
@@ -104,6 +107,7 @@ pub const DISPLAYS: [(&str, Preference); 21] = [
         "pretendwin",
         Preference {
             rule: Rule::LeftOut,
+            effect: Effect::NoInfluence,
             reason: "it is about how changes are found",
             source: Source::Trial,
         },
@@ -112,6 +116,7 @@ pub const DISPLAYS: [(&str, Preference); 21] = [
         "repeat",
         Preference {
             rule: Rule::LeftOut,
+            effect: Effect::NoInfluence,
             reason: "it is about when Unison runs, and how often",
             source: Source::Trial,
         },
@@ -120,6 +125,7 @@ pub const DISPLAYS: [(&str, Preference); 21] = [
         "retry",
         Preference {
             rule: Rule::LeftOut,
+            effect: Effect::NoInfluence,
             reason: "it is about when Unison runs, and how often",
             source: Source::Manual,
         },
@@ -128,6 +134,7 @@ pub const DISPLAYS: [(&str, Preference); 21] = [
         "showarchive",
         Preference {
             rule: Rule::LeftOut,
+            effect: Effect::NoInfluence,
             reason: "it is about what is shown",
             source: Source::Trial,
         },
@@ -136,6 +143,7 @@ pub const DISPLAYS: [(&str, Preference); 21] = [
         "sortbysize",
         Preference {
             rule: Rule::LeftOut,
+            effect: Effect::NoInfluence,
             reason: "it is about what is shown",
             source: Source::Manual,
         },
@@ -144,6 +152,7 @@ pub const DISPLAYS: [(&str, Preference); 21] = [
         "sortfirst",
         Preference {
             rule: Rule::LeftOut,
+            effect: Effect::NoInfluence,
             reason: "it is about what is shown",
             source: Source::Manual,
         },
@@ -152,6 +161,7 @@ pub const DISPLAYS: [(&str, Preference); 21] = [
         "sortlast",
         Preference {
             rule: Rule::LeftOut,
+            effect: Effect::NoInfluence,
             reason: "it is about what is shown",
             source: Source::Manual,
         },
@@ -160,6 +170,7 @@ pub const DISPLAYS: [(&str, Preference); 21] = [
         "sortnewfirst",
         Preference {
             rule: Rule::LeftOut,
+            effect: Effect::NoInfluence,
             reason: "it is about what is shown",
             source: Source::Manual,
         },
@@ -168,6 +179,7 @@ pub const DISPLAYS: [(&str, Preference); 21] = [
         "watch",
         Preference {
             rule: Rule::LeftOut,
+            effect: Effect::NoInfluence,
             reason: "it is about when Unison runs, and how often",
             source: Source::Trial,
         },

@@ -1,13 +1,14 @@
 //! The preferences whose lines stay.
 
-use crate::table::{Preference, Rule, Source};
+use crate::table::{Effect, Preference, Rule, Source};
 
-/// The preferences whose lines stay.
-pub const STAYING: [(&str, Preference); 36] = [
+/// The preferences whose lines stay, but for `backupdir`.
+pub const STAYING: [(&str, Preference); 34] = [
     (
         "atomic",
         Preference {
             rule: Rule::Stays,
+            effect: Effect::AddsChanges,
             reason: "a directory is replaced as a whole, also where a bar forbids a change in it",
             source: Source::Trial,
         },
@@ -16,15 +17,8 @@ pub const STAYING: [(&str, Preference); 36] = [
         "auto",
         Preference {
             rule: Rule::Stays,
+            effect: Effect::NoInfluence,
             reason: "hubsync accepts it without effect",
-            source: Source::Manual,
-        },
-    ),
-    (
-        "backupdir",
-        Preference {
-            rule: Rule::Stays,
-            reason: "the folder may lie below a root",
             source: Source::Manual,
         },
     ),
@@ -32,6 +26,7 @@ pub const STAYING: [(&str, Preference); 36] = [
         "batch",
         Preference {
             rule: Rule::Stays,
+            effect: Effect::NoInfluence,
             reason: "hubsync accepts it without effect",
             source: Source::Manual,
         },
@@ -40,6 +35,7 @@ pub const STAYING: [(&str, Preference); 36] = [
         "confirmbigdel",
         Preference {
             rule: Rule::Stays,
+            effect: Effect::NoInfluence,
             reason: "hubsync accepts it without effect",
             source: Source::Manual,
         },
@@ -48,6 +44,7 @@ pub const STAYING: [(&str, Preference); 36] = [
         "contactquietly",
         Preference {
             rule: Rule::Stays,
+            effect: Effect::NoInfluence,
             reason: "hubsync accepts it without effect",
             source: Source::Manual,
         },
@@ -56,6 +53,7 @@ pub const STAYING: [(&str, Preference); 36] = [
         "doc",
         Preference {
             rule: Rule::Stays,
+            effect: Effect::HoldsBack,
             reason: "Unison refuses it in a profile",
             source: Source::Trial,
         },
@@ -64,6 +62,7 @@ pub const STAYING: [(&str, Preference); 36] = [
         "dumparchives",
         Preference {
             rule: Rule::Stays,
+            effect: Effect::HoldsBack,
             reason: "Unison refuses it in a profile",
             source: Source::Trial,
         },
@@ -72,6 +71,7 @@ pub const STAYING: [(&str, Preference); 36] = [
         "fastcheck",
         Preference {
             rule: Rule::Stays,
+            effect: Effect::NoInfluence,
             reason: "hubsync accepts it without effect",
             source: Source::Manual,
         },
@@ -80,6 +80,7 @@ pub const STAYING: [(&str, Preference); 36] = [
         "follow",
         Preference {
             rule: Rule::Stays,
+            effect: Effect::AddsChanges,
             reason: "Unison changes what the links lead to",
             source: Source::Trial,
         },
@@ -88,6 +89,7 @@ pub const STAYING: [(&str, Preference); 36] = [
         "group",
         Preference {
             rule: Rule::Stays,
+            effect: Effect::NoInfluence,
             reason: "hubsync accepts it without effect",
             source: Source::Manual,
         },
@@ -96,6 +98,7 @@ pub const STAYING: [(&str, Preference); 36] = [
         "i",
         Preference {
             rule: Rule::Stays,
+            effect: Effect::HoldsBack,
             reason: "Unison refuses it in a profile",
             source: Source::Trial,
         },
@@ -104,6 +107,7 @@ pub const STAYING: [(&str, Preference); 36] = [
         "include",
         Preference {
             rule: Rule::Stays,
+            effect: Effect::AddsChanges,
             reason: "the lines of another file take its place",
             source: Source::Trial,
         },
@@ -112,6 +116,7 @@ pub const STAYING: [(&str, Preference); 36] = [
         "key",
         Preference {
             rule: Rule::Stays,
+            effect: Effect::NoInfluence,
             reason: "hubsync accepts it without effect",
             source: Source::Trial,
         },
@@ -120,6 +125,7 @@ pub const STAYING: [(&str, Preference); 36] = [
         "label",
         Preference {
             rule: Rule::Stays,
+            effect: Effect::NoInfluence,
             reason: "hubsync accepts it without effect",
             source: Source::Trial,
         },
@@ -128,6 +134,7 @@ pub const STAYING: [(&str, Preference); 36] = [
         "listen",
         Preference {
             rule: Rule::Stays,
+            effect: Effect::HoldsBack,
             reason: "Unison refuses it in a profile",
             source: Source::Trial,
         },
@@ -136,14 +143,7 @@ pub const STAYING: [(&str, Preference); 36] = [
         "log",
         Preference {
             rule: Rule::Stays,
-            reason: "hubsync accepts it without effect",
-            source: Source::Trial,
-        },
-    ),
-    (
-        "logfile",
-        Preference {
-            rule: Rule::Stays,
+            effect: Effect::NoInfluence,
             reason: "hubsync accepts it without effect",
             source: Source::Trial,
         },
@@ -152,6 +152,7 @@ pub const STAYING: [(&str, Preference); 36] = [
         "merge",
         Preference {
             rule: Rule::Stays,
+            effect: Effect::AddsChanges,
             reason: "a program writes at both roots, also where a bar forbids a change",
             source: Source::Trial,
         },
@@ -160,6 +161,7 @@ pub const STAYING: [(&str, Preference); 36] = [
         "nocreation",
         Preference {
             rule: Rule::Stays,
+            effect: Effect::HoldsBack,
             reason: "it forbids changes at a root",
             source: Source::Trial,
         },
@@ -168,6 +170,7 @@ pub const STAYING: [(&str, Preference); 36] = [
         "nodeletion",
         Preference {
             rule: Rule::Stays,
+            effect: Effect::HoldsBack,
             reason: "it forbids changes at a root",
             source: Source::Trial,
         },
@@ -176,6 +179,7 @@ pub const STAYING: [(&str, Preference); 36] = [
         "noupdate",
         Preference {
             rule: Rule::Stays,
+            effect: Effect::HoldsBack,
             reason: "it forbids changes at a root",
             source: Source::Trial,
         },
@@ -184,6 +188,7 @@ pub const STAYING: [(&str, Preference); 36] = [
         "owner",
         Preference {
             rule: Rule::Stays,
+            effect: Effect::NoInfluence,
             reason: "hubsync accepts it without effect",
             source: Source::Manual,
         },
@@ -192,6 +197,7 @@ pub const STAYING: [(&str, Preference); 36] = [
         "path",
         Preference {
             rule: Rule::Stays,
+            effect: Effect::AddsChanges,
             reason: "it names what is synchronized",
             source: Source::Trial,
         },
@@ -200,6 +206,7 @@ pub const STAYING: [(&str, Preference); 36] = [
         "perms",
         Preference {
             rule: Rule::Stays,
+            effect: Effect::NoInfluence,
             reason: "hubsync accepts it without effect",
             source: Source::Trial,
         },
@@ -208,6 +215,7 @@ pub const STAYING: [(&str, Preference); 36] = [
         "root",
         Preference {
             rule: Rule::Stays,
+            effect: Effect::AddsChanges,
             reason: "it names a root",
             source: Source::Trial,
         },
@@ -216,6 +224,7 @@ pub const STAYING: [(&str, Preference); 36] = [
         "rootalias",
         Preference {
             rule: Rule::Stays,
+            effect: Effect::AddsChanges,
             reason: "two names of a root are one",
             source: Source::Manual,
         },
@@ -224,6 +233,7 @@ pub const STAYING: [(&str, Preference); 36] = [
         "selftest",
         Preference {
             rule: Rule::Stays,
+            effect: Effect::HoldsBack,
             reason: "Unison refuses it in a profile",
             source: Source::Trial,
         },
@@ -232,6 +242,7 @@ pub const STAYING: [(&str, Preference); 36] = [
         "silent",
         Preference {
             rule: Rule::Stays,
+            effect: Effect::NoInfluence,
             reason: "hubsync accepts it without effect",
             source: Source::Manual,
         },
@@ -240,6 +251,7 @@ pub const STAYING: [(&str, Preference); 36] = [
         "socket",
         Preference {
             rule: Rule::Stays,
+            effect: Effect::HoldsBack,
             reason: "Unison refuses it in a profile",
             source: Source::Trial,
         },
@@ -248,6 +260,7 @@ pub const STAYING: [(&str, Preference); 36] = [
         "source",
         Preference {
             rule: Rule::Stays,
+            effect: Effect::AddsChanges,
             reason: "the lines of another file take its place",
             source: Source::Manual,
         },
@@ -256,6 +269,7 @@ pub const STAYING: [(&str, Preference); 36] = [
         "terse",
         Preference {
             rule: Rule::Stays,
+            effect: Effect::NoInfluence,
             reason: "hubsync accepts it without effect",
             source: Source::Manual,
         },
@@ -264,6 +278,7 @@ pub const STAYING: [(&str, Preference); 36] = [
         "testserver",
         Preference {
             rule: Rule::Stays,
+            effect: Effect::HoldsBack,
             reason: "Unison refuses it in a profile",
             source: Source::Trial,
         },
@@ -272,6 +287,7 @@ pub const STAYING: [(&str, Preference); 36] = [
         "times",
         Preference {
             rule: Rule::Stays,
+            effect: Effect::NoInfluence,
             reason: "hubsync accepts it without effect",
             source: Source::Trial,
         },
@@ -280,6 +296,7 @@ pub const STAYING: [(&str, Preference); 36] = [
         "ui",
         Preference {
             rule: Rule::Stays,
+            effect: Effect::HoldsBack,
             reason: "Unison refuses it in a profile",
             source: Source::Trial,
         },
@@ -288,6 +305,7 @@ pub const STAYING: [(&str, Preference); 36] = [
         "version",
         Preference {
             rule: Rule::Stays,
+            effect: Effect::HoldsBack,
             reason: "Unison refuses it in a profile",
             source: Source::Trial,
         },

@@ -1,86 +1,15 @@
-//! The preferences on connections, on how files are copied, and on backups.
+//! The preferences on connections, and on how files are copied.
 
-use crate::table::{Preference, Rule, Source};
+use crate::table::{Effect, Preference, Rule, Source};
 
-/// The preferences on connections, on how files are copied, and on backups.
-pub const TRANSFERS: [(&str, Preference); 27] = [
+/// The preferences on connections, and on how files are copied.
+pub const TRANSFERS: [(&str, Preference); 10] = [
     (
         "addversionno",
         Preference {
             rule: Rule::LeftOut,
+            effect: Effect::NoInfluence,
             reason: "it is about the connection",
-            source: Source::Trial,
-        },
-    ),
-    (
-        "backup",
-        Preference {
-            rule: Rule::LeftOut,
-            reason: "the copies are in one folder, whose place the lines backupdir and backuploc name",
-            source: Source::Trial,
-        },
-    ),
-    (
-        "backupcurr",
-        Preference {
-            rule: Rule::LeftOut,
-            reason: "the copies are in one folder, whose place the lines backupdir and backuploc name",
-            source: Source::Manual,
-        },
-    ),
-    (
-        "backupcurrent",
-        Preference {
-            rule: Rule::LeftOut,
-            reason: "the copies are in one folder, whose place the lines backupdir and backuploc name",
-            source: Source::Trial,
-        },
-    ),
-    (
-        "backupcurrentnot",
-        Preference {
-            rule: Rule::LeftOut,
-            reason: "the copies are in one folder, whose place the lines backupdir and backuploc name",
-            source: Source::Trial,
-        },
-    ),
-    (
-        "backupcurrnot",
-        Preference {
-            rule: Rule::LeftOut,
-            reason: "the copies are in one folder, whose place the lines backupdir and backuploc name",
-            source: Source::Manual,
-        },
-    ),
-    (
-        "backupnot",
-        Preference {
-            rule: Rule::LeftOut,
-            reason: "the copies are in one folder, whose place the lines backupdir and backuploc name",
-            source: Source::Manual,
-        },
-    ),
-    (
-        "backupprefix",
-        Preference {
-            rule: Rule::LeftOut,
-            reason: "the copies are in one folder, whose place the lines backupdir and backuploc name",
-            source: Source::Manual,
-        },
-    ),
-    (
-        "backupsuffix",
-        Preference {
-            rule: Rule::LeftOut,
-            reason: "the copies are in one folder, whose place the lines backupdir and backuploc name",
-            source: Source::Manual,
-        },
-    ),
-    (
-        "backupversions",
-        Preference {
-            rule: Rule::LeftOut,
-            reason: "it says how many copies are kept",
             source: Source::Trial,
         },
     ),
@@ -88,6 +17,7 @@ pub const TRANSFERS: [(&str, Preference); 27] = [
         "clientHostName",
         Preference {
             rule: Rule::LeftOut,
+            effect: Effect::NoInfluence,
             reason: "it is about the connection",
             source: Source::Trial,
         },
@@ -96,22 +26,7 @@ pub const TRANSFERS: [(&str, Preference); 27] = [
         "copymax",
         Preference {
             rule: Rule::LeftOut,
-            reason: "it is about how a file is copied",
-            source: Source::Manual,
-        },
-    ),
-    (
-        "copyprog",
-        Preference {
-            rule: Rule::LeftOut,
-            reason: "it is about how a file is copied",
-            source: Source::Manual,
-        },
-    ),
-    (
-        "copyprogrest",
-        Preference {
-            rule: Rule::LeftOut,
+            effect: Effect::NoInfluence,
             reason: "it is about how a file is copied",
             source: Source::Manual,
         },
@@ -120,14 +35,7 @@ pub const TRANSFERS: [(&str, Preference); 27] = [
         "copyquoterem",
         Preference {
             rule: Rule::LeftOut,
-            reason: "it is about how a file is copied",
-            source: Source::Manual,
-        },
-    ),
-    (
-        "copythreshold",
-        Preference {
-            rule: Rule::LeftOut,
+            effect: Effect::NoInfluence,
             reason: "it is about how a file is copied",
             source: Source::Manual,
         },
@@ -136,6 +44,7 @@ pub const TRANSFERS: [(&str, Preference); 27] = [
         "halfduplex",
         Preference {
             rule: Rule::LeftOut,
+            effect: Effect::NoInfluence,
             reason: "it is about the connection",
             source: Source::Trial,
         },
@@ -144,63 +53,26 @@ pub const TRANSFERS: [(&str, Preference); 27] = [
         "killserver",
         Preference {
             rule: Rule::LeftOut,
+            effect: Effect::NoInfluence,
             reason: "it is about the connection",
             source: Source::Trial,
-        },
-    ),
-    (
-        "maxbackups",
-        Preference {
-            rule: Rule::LeftOut,
-            reason: "it says how many copies are kept",
-            source: Source::Manual,
         },
     ),
     (
         "maxthreads",
         Preference {
             rule: Rule::LeftOut,
+            effect: Effect::NoInfluence,
             reason: "it is about how a file is copied",
             source: Source::Manual,
-        },
-    ),
-    (
-        "mirror",
-        Preference {
-            rule: Rule::LeftOut,
-            reason: "the copies are in one folder, whose place the lines backupdir and backuploc name",
-            source: Source::Trial,
         },
     ),
     (
         "rsync",
         Preference {
             rule: Rule::LeftOut,
+            effect: Effect::NoInfluence,
             reason: "it is about how a file is copied",
-            source: Source::Manual,
-        },
-    ),
-    (
-        "servercmd",
-        Preference {
-            rule: Rule::LeftOut,
-            reason: "it is about the connection",
-            source: Source::Trial,
-        },
-    ),
-    (
-        "sshargs",
-        Preference {
-            rule: Rule::LeftOut,
-            reason: "it is about the connection",
-            source: Source::Manual,
-        },
-    ),
-    (
-        "sshcmd",
-        Preference {
-            rule: Rule::LeftOut,
-            reason: "it is about the connection",
             source: Source::Manual,
         },
     ),
@@ -208,6 +80,7 @@ pub const TRANSFERS: [(&str, Preference); 27] = [
         "stream",
         Preference {
             rule: Rule::LeftOut,
+            effect: Effect::NoInfluence,
             reason: "it is about how a file is copied",
             source: Source::Trial,
         },
@@ -216,6 +89,7 @@ pub const TRANSFERS: [(&str, Preference); 27] = [
         "xferbycopying",
         Preference {
             rule: Rule::LeftOut,
+            effect: Effect::NoInfluence,
             reason: "it is about how a file is copied",
             source: Source::Manual,
         },

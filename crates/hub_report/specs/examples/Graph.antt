@@ -47,7 +47,7 @@ dashed = codes "    \"profile docs\" -- \"profile lists\" [color = red, style = 
 
 two_profiles_that_clash :
     graph_text (record { profiles = docs ∷ lists ∷ []; rules = [] })
-    (overlap 0 1 (codes "docs/lists") ∷ [])
+    (overlap 0 1 (codes "docs/lists") ∷ []) []
     ≡ codes "graph clashes {\n    graph [rankdir = LR];\n"
     ++ (codes "    node [fontname = \"sans-serif\"];\n    edge [fontname = \"sans-serif\"];\n"
     ++ (codes "    \"profile docs\" [shape = box, label = \"docs\"];\n"
@@ -65,21 +65,39 @@ two_profiles_that_clash = refl
 
 two_profiles_have_one_line_with_the_first_path :
     joining_lines (docs ∷ lists ∷ [])
-    (overlap 0 1 (codes "docs/lists") ∷ overlap 1 0 (codes "docs") ∷ large_pair 1 0 ∷ [])
+    (overlap 0 1 (codes "docs/lists") ∷ overlap 1 0 (codes "docs") ∷ large_pair 1 0 ∷ []) []
     ≡ red
 unfolding computed
 two_profiles_have_one_line_with_the_first_path = refl
 
 a_red_line_leaves_no_dashed_one :
-    joining_lines (docs ∷ lists ∷ []) (large_pair 1 0 ∷ overlap 0 1 (codes "docs/lists") ∷ [])
+    joining_lines (docs ∷ lists ∷ []) (large_pair 1 0 ∷ overlap 0 1 (codes "docs/lists") ∷ []) []
     ≡ red
 unfolding computed
 a_red_line_leaves_no_dashed_one = refl
 
 a_pair_that_is_too_large_is_dashed_once :
-    joining_lines (docs ∷ lists ∷ []) (large_pair 0 1 ∷ large_pair 1 0 ∷ []) ≡ dashed
+    joining_lines (docs ∷ lists ∷ []) (large_pair 0 1 ∷ large_pair 1 0 ∷ []) [] ≡ dashed
 unfolding computed
 a_pair_that_is_too_large_is_dashed_once = refl
+
+-- the red line of two profiles that share an archive
+abbrev archive : List ℕ
+archive =
+    codes "    \"profile docs\" -- \"profile lists\" "
+    ++ codes "[color = red, fontcolor = red, label = \"same archive\"];\n"
+
+a_shared_archive_leaves_no_dashed_line :
+    joining_lines (docs ∷ lists ∷ []) (large_pair 1 0 ∷ []) ((0, 1) ∷ []) ≡ archive
+unfolding computed
+a_shared_archive_leaves_no_dashed_line = refl
+
+a_path_is_shown_before_a_shared_archive :
+    joining_lines (docs ∷ lists ∷ []) (overlap 1 0 (codes "docs/lists") ∷ []) ((0, 1) ∷ [])
+    ≡ codes "    \"profile lists\" -- \"profile docs\" "
+    ++ codes "[color = red, fontcolor = red, label = \"docs/lists\"];\n"
+unfolding computed
+a_path_is_shown_before_a_shared_archive = refl
 
 a_breach_is_red : box_style (large_breach 1 ∷ breach 1 ∷ []) 1 ≡ codes ", color = red"
 a_breach_is_red = refl

@@ -1,5 +1,5 @@
 -- How a text of an answer starts: its first letters say what kind of answer it is.
-use Rattle.std.proofs.Common.{◌≡◌, ◌==◌, ℕ, suc, zero, List, [], ◌∷◌, ◌++◌, take, Option, Some, None, append-nil, refl, subst}
+use Rattle.std.proofs.Common.{◌≡◌, ◌==◌, ℕ, suc, zero, List, [], ◌∷◌, ◌++◌, take, Option, Some, None, append-nil, append_assoc, refl, sym, subst}
 use Rattle.std.specs.Prelude.{slice_get, if◌then◌else◌}
 use Rattle.hub_path.specs.Path.{Path}
 use Rattle.hub_automaton.specs.declared.fault.AutomatonFault.TheVariants as automaton
@@ -22,6 +22,7 @@ pub data Start : Type 0 where
   GraphStart : Start
   ReachedStart : Start
   NotReachedStart : Start
+  ArchiveStart : Start
   OtherStart : Start
 
 abbrev pub first : List ℕ → ℕ
@@ -38,9 +39,13 @@ third (a ∷ b ∷ c ∷ t) = c
 abbrev pub r_start : ℕ → Start
 r_start c = if c == 97 then ReachedStart else (if c == 117 then RoundsStart else OtherStart)
 
+-- So do `safe` and `same archive`.
+abbrev pub s_start : ℕ → Start
+s_start c = if c == 109 then ArchiveStart else SafeStart
+
 abbrev pub start_of : ℕ → ℕ → Start
 start_of a c =
-    if a == 115 then SafeStart
+    if a == 115 then s_start c
     else (if a == 118 then VerifiedStart
     else (if a == 111 then OverlapStart
     else (if a == 98 then BreachStart
@@ -69,9 +74,9 @@ begins-taken (b ∷ p) (a ∷ t) s (suc w) e =
 
 -- The line of a breach begins with a b, if there is a rule. If there is none, the line is empty.
 breach-start : (P : Start → Type 0) (name : List ℕ) (R : Option Rule) (n : ℕ) (path : Path)
-    (more : List ℕ) → P (start more) → P BreachStart
+    (more : List ℕ) → (breach_text name R n path ≡ [] → P (start more)) → P BreachStart
     → P (start (breach_text name R n path ++ more))
-breach-start P name None n path more other breach = other
+breach-start P name None n path more other breach = other refl
 breach-start P name (Some R) n path more other breach = breach
 
 -- What holds of the start of the line of an overlap, of that of a breach, of that of a goal that is too large and of any other
@@ -83,8 +88,8 @@ pub record HoldsOfStarts (P : Start → Type 0) (e : CheckFault) : Type 0 where
   pub breach : (p k : ℕ) (path : Path) → e ≡ fault.Breach p k path → P BreachStart
   pub too_large : (g : Goal) → e ≡ fault.TooLarge g → P TooLargeStart
 
-line-start : (P : Start → Type 0) (S : Members) (e : CheckFault) (more : List ℕ) → P (start more)
-    → HoldsOfStarts P e
+line-start : (P : Start → Type 0) (S : Members) (e : CheckFault) (more : List ℕ)
+    → (refusal_line S e ≡ [] → P (start more)) → HoldsOfStarts P e
     → P (start (refusal_line S e ++ more))
 line-start P S fault.TooManyProfiles more rest h = h.other
 line-start P S (fault.SameName n) more rest h = h.other
@@ -108,13 +113,18 @@ line-start P S fault.OutOfMemory more rest h = h.other
 pub refusal-start : (P : Start → Type 0) (S : Members) (e : CheckFault) → HoldsOfStarts P e
     → P (start (refusal_line S e))
 refusal-start P S e h =
-    subst (λ t. P (start t)) (append-nil (refusal_line S e)) (line-start P S e [] h.other h)
+    subst (λ t. P (start t)) (append-nil (refusal_line S e))
+    (line-start P S e [] (λ none. h.other) h)
 
--- And of the start of the lines of many.
-pub lines-start : (P : Start → Type 0) (S : Members) (es : List CheckFault) → P OtherStart
+-- And of the start of the lines of many, and of what follows them if they are empty.
+pub lines-start : (P : Start → Type 0) (S : Members) (es : List CheckFault) (more : List ℕ)
+    → (clash_lines S es ≡ [] → P (start more))
     → ((n : ℕ) (e : CheckFault) → slice_get es n ≡ Some e → HoldsOfStarts P e)
-    → P (start (clash_lines S es))
-lines-start P S [] other h = other
-lines-start P S (e ∷ es) other h =
-    line-start P S e (clash_lines S es) (lines-start P S es other (λ n f at. h (suc n) f at))
-    (h 0 e refl)
+    → P (start (clash_lines S es ++ more))
+lines-start P S [] more other h = other refl
+lines-start P S (e ∷ es) more other h =
+    subst (λ t. P (start t)) (sym (append_assoc (refusal_line S e) (clash_lines S es) more))
+    (line-start P S e (clash_lines S es ++ more)
+    (λ empty. lines-start P S es more (λ none. other (λ i. empty i ++ none i))
+    (λ n f at. h (suc n) f at))
+    (h 0 e refl))

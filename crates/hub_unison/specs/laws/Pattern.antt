@@ -1,5 +1,5 @@
 -- What specifications match for certain, and what they may match.
-use Rattle.std.proofs.Common.{◌≡◌, ◌==◌, ℕ, Bool, true, false, not, ◌||◌, List, [], ◌∷◌, ◌++◌, map, length, refl, sym, ap, ◌∙◌, append-nil}
+use Rattle.std.proofs.Common.{◌≡◌, ◌==◌, ℕ, Option, Some, None, Bool, true, false, not, ◌||◌, List, [], ◌∷◌, ◌++◌, map, length, refl, sym, ap, ◌∙◌, append-nil}
 use Rattle.std.specs.Prelude.{if◌then◌else◌}
 use Rattle.std.specs.List.{list_any}
 use Rattle.std.proofs.lemmas.Bool.{and_parts, and_from, or_right}
@@ -13,7 +13,8 @@ use Rattle.hub_glob.specs.Specification.{Specification}
 use Rattle.hub_glob.specs.declared.path_spec.Kind.TheVariants as kind
 use Rattle.hub_glob.specs.Glob.{pieces, glob, choices, no_more, matches, by_kind}
 use Rattle.hub_glob.specs.laws.Choice.{glob_choices}
-use Rattle.hub_unison.specs.Matching.{sure_pieces, sure_text, all_simple, all_known, of_kind, surely, perhaps, star_for, starred, widened, IsMatching}
+use Rattle.hub_unison.specs.Matching.{sure_pieces, sure_text, all_simple, all_known, of_kind, spec_surely, spec_perhaps, star_for, starred, widened, surely_by, perhaps_by, matches_by, line_matches, IsMatching}
+use Rattle.hub_unison.specs.Lines.{line_spec}
 use Rattle.hub_unison.specs.laws.Piece.{sure-within}
 
 pub by_kind-of : (k : Kind) (ps : List Part) (p : Path) → by_kind k ps p ≡ of_kind k (glob ps true) p
@@ -43,8 +44,8 @@ sure-text-within ps t h =
     (λ c. sure-within c true t)
     (and_parts (all_known ps) (list_any (λ c. sure_pieces c no_more true t) (choices ps)) h).1
 
-pub surely-matches : (s : Specification) (p : Path) → surely s p ≡ true → matches s p ≡ true
-unfolding matches surely
+pub surely-matches : (s : Specification) (p : Path) → spec_surely s p ≡ true → matches s p ≡ true
+unfolding matches spec_surely
 surely-matches s p h =
     let parts = and_parts (not (length p == 0)) (of_kind s.kind (sure_text s.pattern) p) h in
     and_from (not (length p == 0)) (by_kind s.kind s.pattern p) parts.0
@@ -82,16 +83,28 @@ widened-matches s p h = go (all_simple s.pattern)
     go true = h
     go false = starred-matches s p h
 
--- So hubsync's reading is one of those that Unison may have.
-pub matches_is_matching : IsMatching matches
-unfolding perhaps
-matches_is_matching = record {
-  least = surely-matches;
-  most = λ s p h. or_right (not (all_known s.pattern)) (matches (widened s) p) (widened-matches s p h);
+matches-perhaps : (s : Specification) (p : Path) → matches s p ≡ true → spec_perhaps s p ≡ true
+unfolding spec_perhaps
+matches-perhaps s p h =
+    or_right (not (all_known s.pattern)) (matches (widened s) p) (widened-matches s p h)
+
+-- So hubsync's reading of lines is one of those that Unison may have.
+surely-by : (o : Option Specification) (p : Path) → surely_by o p ≡ true → matches_by o p ≡ true
+surely-by None p h = h
+surely-by (Some s) p h = surely-matches s p h
+
+by-perhaps : (o : Option Specification) (p : Path) → matches_by o p ≡ true → perhaps_by o p ≡ true
+by-perhaps None p h = refl
+by-perhaps (Some s) p h = matches-perhaps s p h
+
+pub line_matches_is_matching : IsMatching line_matches
+line_matches_is_matching = record {
+  least = λ l p. surely-by (line_spec l) p;
+  most = λ l p. by-perhaps (line_spec l) p;
 }
 
 -- Of a known pattern Unison matches at most what hubsync does with stars.
 pub known-perhaps : (s : Specification) (p : Path) → all_known s.pattern ≡ true
-    → perhaps s p ≡ true → matches (widened s) p ≡ true
-unfolding perhaps
+    → spec_perhaps s p ≡ true → matches (widened s) p ≡ true
+unfolding spec_perhaps
 known-perhaps s p known h = sym (ap (λ b. not b || matches (widened s) p) known) ∙ h

@@ -1,5 +1,5 @@
 -- The readings of profiles are cautious, and are the profiles themselves where all is read alike.
-use Rattle.std.proofs.Common.{◌≡◌, ◌==◌, ◌-◌, ℕ, suc, Bool, true, false, not, ◌&&◌, ◌||◌, List, [], ◌∷◌, ◌++◌, cond, length, map, refl, sym, ap, ◌∙◌, arith, append-nil}
+use Rattle.std.proofs.Common.{◌≡◌, ◌==◌, ◌-◌, ℕ, suc, Bool, true, false, not, ◌&&◌, ◌||◌, List, [], ◌∷◌, ◌++◌, cond, length, map, refl, sym, ap, ◌∙◌, arith, append-nil, subst}
 use Rattle.std.specs.Prelude.{nat_le, nat_lt, if◌then◌else◌, option_map}
 use Rattle.std.specs.List.{list_any, list_all, filter, flat_map}
 use Rattle.std.proofs.lemmas.Bool.{and_parts, and_from, or_right}
@@ -19,10 +19,10 @@ use Rattle.hub_profile.specs.Parts.{Parts}
 use Rattle.hub_unison.specs.Cautious.{any_surely, cover, covers_value, has_star, with_patterns, with_tops, IgnoresLess, SparesMore, BarsLess}
 use Rattle.hub_unison.specs.laws.Cautious.{lines-cautious, none-cautious, tops-cautious, no}
 use Rattle.hub_unison.specs.Kept.{own_lines, spare_lines, within, taken, fitting}
-use Rattle.hub_unison.specs.Matching.{all_simple, all_known, perhaps, starred, surely, widened}
+use Rattle.hub_unison.specs.Matching.{all_simple, all_known, spec_perhaps, starred, spec_surely, widened}
 use Rattle.hub_unison.specs.laws.Piece.{all-weaker, any-where}
 use Rattle.hub_unison.specs.ReadingOf.{all_kept, braced, each_kept, is_among, is_owned, line_kept, needed, owns, room_beside, are_tops, bar_stays, cautious_of, cut_value, has_spares, is_read_alike, is_read_back, kept_bars, line_stays, reading_of, spare_of, spare_stays, top_values, topmost, with_kept}
-use Rattle.hub_unison.specs.Rules.{AreReadForUnison, IsReadingOf}
+use Rattle.hub_unison.specs.Rules.{AreReadForUnison, IsReadingOf, for_rules}
 use Rattle.hub_unison.specs.laws.Rules.{cautious-read, rules-read}
 use Rattle.hub_unison.specs.laws.Spare.{all-known, plain-matches, spared-matches}
 use Rattle.hub_unison.specs.laws.Pattern.{brace-choices, by_kind-of, known-perhaps, of_kind-weaker}
@@ -31,6 +31,7 @@ use Rattle.hub_glob.specs.contracts.path_spec.PathSpecPartialEq.TheImpl as teste
 use Rattle.hub_glob.specs.contracts.path_spec.PathSpecExact.TheImpl.Laws as tested_laws
 use Rattle.hub_unison.specs.Spares.{is_plain, pattern_spares}
 use Rattle.hub_unison.specs.UnisonReach.{IsCautious, is_starred}
+use Rattle.hub_unison.specs.Written.{AreWrittenAs, IsWrittenAs, Written}
 
 -- Tests.
 or-cases : (a b c : Bool) → (a || b) ≡ true → (a ≡ true → c ≡ true) → (b ≡ true → c ≡ true)
@@ -76,14 +77,14 @@ stays-simple s h =
     (not (has_spares s) || is_read_back (spare_of s)) h).0).1
 
 alone-sure : (s : Specification) (q : Path) → line_stays s ≡ true → has_spares s ≡ false
-    → matches s q ≡ true → surely s q ≡ true
+    → matches s q ≡ true → spec_surely s q ≡ true
 alone-sure s q stays none m =
     plain-matches s q
     (and_from (all_simple s.pattern) (length (pattern_spares s.pattern) == 0) (stays-simple s stays)
     (not-false (length (pattern_spares s.pattern) == 0) none)) m
 
 sparing-sure : (s : Specification) (q : Path) → line_stays s ≡ true → matches s q ≡ true
-    → (surely s q || matches (spare_of s) q) ≡ true
+    → (spec_surely s q || matches (spare_of s) q) ≡ true
 sparing-sure s q stays m =
     spared-matches s (spare_of s) q (stays-simple s stays)
     (record { kind = refl; choices = brace-choices (pattern_spares s.pattern) }) m
@@ -105,14 +106,14 @@ owned-sure : (ss : List Specification) (spare : Specification) (q : Path) → is
     → matches spare q ≡ true → any_surely ss q ≡ true
 owned-sure [] spare q h m = absurd (no h)
 owned-sure (s ∷ ss) spare q h m =
-    or-cases (owns s spare) (is_owned ss spare) (surely s q || any_surely ss q) h
+    or-cases (owns s spare) (is_owned ss spare) (spec_surely s q || any_surely ss q) h
     (λ own. let plain = and_parts (is_plain s.pattern)
     (is_read_back (braced s) && tested.eq-value.it (braced s) spare) own in
     let same = (tested_laws.exact-law (braced s) spare).0
     (and_parts (is_read_back (braced s)) (tested.eq-value.it (braced s) spare) plain.1).1 in
     ap (λ b. b || any_surely ss q)
     (plain-matches s q plain.0 (braced-matches s q (ap (λ x. matches x q) same ∙ m))))
-    (λ rest. or_right (surely s q) (any_surely ss q) (owned-sure ss spare q rest m))
+    (λ rest. or_right (spec_surely s q) (any_surely ss q) (owned-sure ss spare q rest m))
 
 among-matches : (ss : List Specification) (spare : Specification) (q : Path)
     → is_among ss spare ≡ true → matches spare q ≡ true → any_matches ss q ≡ true
@@ -164,7 +165,7 @@ module _ (old spared : List Specification) (q : Path) where
   alone-only true h = refl
   alone-only false h = h
 
-  line-sure : (s : Specification) → (surely s q ≡ true → any_surely old q ≡ true)
+  line-sure : (s : Specification) → (spec_surely s q ≡ true → any_surely old q ≡ true)
       → IsSure (line_kept s)
   line-sure s up = go (line_stays s) refl (has_spares s) refl
     where
@@ -179,7 +180,7 @@ module _ (old spared : List Specification) (q : Path) where
       go true e false f h =
           by-old [] (up (alone-sure s q e f (alone-only (matches s q) h)))
       go true e true f h =
-          or-cases (surely s q) (matches (spare_of s) q)
+          or-cases (spec_surely s q) (matches (spare_of s) q)
           (any_surely old q || (any_matches spared q || any_matches (spare_of s ∷ []) q))
           (sparing-sure s q e (alone-only (matches s q) h))
           (λ k. by-old (spare_of s ∷ []) (up k))
@@ -236,7 +237,7 @@ module _ (old spared : List Specification) (q : Path) where
       (λ m. covered-more (flat_map spare_lines rest) (spare_lines k ++ flat_map spare_lines rest)
       (λ e. sym (any-append (λ x. matches x q) (spare_lines k) (flat_map spare_lines rest))
       ∙ or_right (any_matches (spare_lines k) q) (any_matches (flat_map spare_lines rest) q) e)
-      (fitting-sure ss (room - taken k) (λ e. up (or_right (surely s q) (any_surely ss q) e)) m))
+      (fitting-sure ss (room - taken k) (λ e. up (or_right (spec_surely s q) (any_surely ss q) e)) m))
     where
       k : Kept
       k = within room (needed old spared (line_kept s))
@@ -259,7 +260,7 @@ spared-more old added stay q h =
     sym (any-append (λ s. matches s q) (map widened old) added)
     ∙ ap (λ b. b || any_matches added q)
     (sym (any-map (λ s. matches s q) widened old)
-    ∙ any-where spare_stays (λ s. perhaps s q) (λ s. matches (widened s) q) old stay
+    ∙ any-where spare_stays (λ s. spec_perhaps s q) (λ s. matches (widened s) q) old stay
     (λ s stays. known-perhaps s q
     (and_parts (all_known s.pattern) (is_read_back (widened s)) stays).0) h)
 
@@ -267,9 +268,9 @@ spared-more old added stay q h =
 bars-less : (old : List Partial) → BarsLess old (kept_bars old)
 bars-less old test q h =
     any-filter bar_stays (λ b. test b.side b.bars && matches b.spec q)
-    (λ b. test b.side b.bars && surely b.spec q) old
+    (λ b. test b.side b.bars && spec_surely b.spec q) old
     (λ b stays f. let parts = and_parts (test b.side b.bars) (matches b.spec q) f in
-    and_from (test b.side b.bars) (surely b.spec q) parts.0
+    and_from (test b.side b.bars) (spec_surely b.spec q) parts.0
     (plain-matches b.spec q
     (and_parts (is_read_back b.spec) (is_plain b.spec.pattern) stays).1 parts.1)) h
 
@@ -301,9 +302,12 @@ values-cover paths = go (are_tops (topmost (map cut_value paths)) paths) refl
     go false e = cover-top paths
 
 -- The cautious reading is cautious.
-pub reading-cautious : (P : Parts) → IsCautious P (cautious_of P)
-reading-cautious P = go (has_star P) refl (list_all spare_stays P.ignorenot) refl
+own-cautious : (W : Written) → IsWrittenAs W W.parts → IsCautious W (cautious_of W.parts)
+own-cautious W written = go (has_star P) refl (list_all spare_stays P.ignorenot) refl
   where
+    P : Parts
+    P = W.parts
+
     bars : List Partial
     bars = kept_bars P.partial
 
@@ -311,31 +315,40 @@ reading-cautious P = go (has_star P) refl (list_all spare_stays P.ignorenot) ref
     spared = map widened P.ignorenot
 
     go : (b : Bool) → has_star P ≡ b → (c : Bool) → list_all spare_stays P.ignorenot ≡ c
-        → IsCautious P (if b then with_tops P (top_values P.paths) bars
+        → IsCautious W (if b then with_tops P (top_values P.paths) bars
         else (if c then with_kept P (all_kept P.ignore spared) spared bars
         else with_patterns P [] [] bars))
-    go true e c f = tops-cautious P (top_values P.paths) bars (values-cover P.paths) (bars-less P.partial)
+    go true e c f =
+        tops-cautious W written (top_values P.paths) bars (values-cover P.paths) (bars-less P.partial)
     go false e true f =
-        lines-cautious P (flat_map own_lines (all_kept P.ignore spared))
+        lines-cautious W written (flat_map own_lines (all_kept P.ignore spared))
         (spared ++ flat_map spare_lines (all_kept P.ignore spared)) bars e (kept-less P.ignore spared)
         (spared-more P.ignorenot (flat_map spare_lines (all_kept P.ignore spared)) f)
         (bars-less P.partial)
-    go false e false f = none-cautious P bars e (bars-less P.partial)
+    go false e false f = none-cautious W written bars e (bars-less P.partial)
+
+pub reading-cautious : (W : Written) (P : Parts) → IsWrittenAs W P → IsCautious W (cautious_of P)
+reading-cautious W P written =
+    subst (λ Q. IsWrittenAs W Q → IsCautious W (cautious_of Q)) written.parts (own-cautious W) written
 
 -- The readings beside rules.
-reading-read : (Rs : List Rule) (P : Parts) → IsReadingOf Rs P (reading_of Rs P)
-reading-read [] P = cautious-read P (cautious_of P) (reading-cautious P)
-reading-read (R ∷ Rs) P = rules-read (R ∷ Rs) P (top_values P.paths) (values-cover P.paths)
+reading-read : (Rs : List Rule) (W : Written) (P : Parts) → IsWrittenAs W P
+    → IsReadingOf Rs W (reading_of Rs P)
+reading-read [] W P written = cautious-read W (cautious_of P) (reading-cautious W P written)
+reading-read (R ∷ Rs) W P written =
+    subst (λ Q. IsReadingOf (R ∷ Rs) W (for_rules Q (top_values Q.paths))) written.parts
+    (rules-read (R ∷ Rs) W (top_values W.parts.paths) (values-cover W.parts.paths))
 
-pub readings-read : (Ps : List Parts) (Rs : List Rule)
-    → AreReadForUnison Ps Rs (map (reading_of Rs) Ps)
-readings-read Ps Rs = record {
-  count = length-map Ps (reading_of Rs);
-  each = λ i P at. (
-    reading_of Rs P,
-    slice_get-map (reading_of Rs) Ps i ∙ ap (option_map (reading_of Rs)) at,
-    reading-read Rs P,
-  );
+pub readings-read : (Ws : List Written) (Ps : List Parts) (Rs : List Rule) → AreWrittenAs Ws Ps
+    → AreReadForUnison Ws Rs (map (reading_of Rs) Ps)
+readings-read Ws Ps Rs written = record {
+  count = length-map Ps (reading_of Rs) ∙ sym written.count;
+  each = λ i W at.
+      let own = written.each i W at in (
+        reading_of Rs own.0,
+        slice_get-map (reading_of Rs) Ps i ∙ ap (option_map (reading_of Rs)) own.1,
+        reading-read Rs W own.0 own.2,
+      );
 }
 
 -- A profile that is read alike stays.

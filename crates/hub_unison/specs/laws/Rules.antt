@@ -1,12 +1,9 @@
 -- What readings beside rules show.
-use Rattle.std.proofs.Common.{◌≡◌, ◌∙◌, Bool, true, false, not, ◌&&◌, ◌||◌, List, [], ◌∷◌, Some, None, Option, refl, sym, ap, subst}
-use Rattle.std.specs.Prelude.{IsTrue, ◌+◌, ◌++◌, map, slice_get, option_map}
-use Rattle.std.proofs.Common.{⊎_elim}
+use Rattle.std.proofs.Common.{◌≡◌, ◌∙◌, Bool, true, false, not, ◌&&◌, ◌||◌, List, [], Some, None, Option, refl, sym, ap}
+use Rattle.std.specs.Prelude.{IsTrue, map, slice_get, option_map}
 use Rattle.std.specs.List.{list_any}
 use Rattle.std.proofs.lemmas.Bool.{and_parts, and_from, or_right}
 use Rattle.std.proofs.lemmas.Option.{none-some, slice_get-map}
-use Rattle.std.proofs.lemmas.List.{length-append}
-use Rattle.hub_text.specs.laws.List.{snoc-cases, snoc-new, snoc-old}
 use Rattle.hub_path.specs.laws.General.{is_over-transitive}
 use Rattle.hub_path.specs.Path.{Path, is_over, is_path, prefixes}
 use Rattle.hub_path.specs.declared.side.Side.{Side}
@@ -19,8 +16,10 @@ use Rattle.hub_profile.specs.Parts.{Parts, at_side, has_root, is_root_at, some_p
 use Rattle.hub_reach.specs.Reach.{covers, is_barred, is_barred_at, is_forced_root, is_open, may, may_at, reach, writes_at}
 use Rattle.hub_reach.specs.Safe as safe
 use Rattle.hub_text.specs.laws.Test.{any-weaker, not-weaker}
-use Rattle.hub_unison.specs.Matching.{Matching, IsMatching}
-use Rattle.hub_unison.specs.UnisonReach.{IsCautious, IsSafeInUnison, bars_by, may_by, reach_by, writes_by}
+use Rattle.hub_unison.specs.Matching.{Matching}
+use Rattle.hub_unison.specs.UnisonReach.{IsCautious, IsSafeInUnison, may_by, reach_by, some_bars, writes_by}
+use Rattle.hub_unison.specs.Shared.{ShareNoArchive}
+use Rattle.hub_unison.specs.Written.{Written}
 use Rattle.hub_unison.specs.Cautious.{cover}
 use Rattle.hub_unison.specs.laws.Cautious.{safe_in_unison, tops-reach, no, none-over, three-weaker}
 use Rattle.hub_unison.specs.Rules.{AreReadForUnison, IsReadingOf, KeepsRulesInUnison, for_rules, forbidden, may_item, rule_bars}
@@ -50,9 +49,6 @@ passes-map f test own None w h = absurd (no h)
 passes-map f test own (Some x) w h = w x h
 
 module _ (P : Parts) (tops : List Path) where
-  C : Parts
-  C = for_rules P tops
-
   -- A change that bars for rules forbid, the own bars forbid.
   barred-at : (r : Path) (v w : Verb)
       → ((b : Bars) → covers v (rule_bars b) ≡ true → covers w b ≡ true) → (s : Side)
@@ -94,26 +90,6 @@ module _ (P : Parts) (tops : List Path) where
       → may_at (for_rules P tops) r p v ≡ true
   at-all r p v h = and_from (may (for_rules P tops) r v) true h refl
 
-  own-may : (m : Matching) (r p : Path) (v : Verb) → may_by m P r p v ≡ true → may P r v ≡ true
-  own-may m r p v h = (and_parts (may P r v) (not (list_any (bars_by m P r v p) P.partial)) h).0
-
-  may-all : (m : Matching) (r p q : Path) (v : Verb) → may_by m P r p v ≡ true
-      → may_at (for_rules P tops) r q v ≡ true
-  may-all m r p q v h = at-all r q v (may-weaker r v v (covered v) (own-may m r p v h))
-
-  -- What may be done at an item or below it, may be done at each path.
-  item-allowed : (m : Matching) (r p q : Path) (v : Verb) → may_item m P r p v ≡ true
-      → may_at (for_rules P tops) r q v ≡ true
-  item-allowed m r p q Create h = go (may_by m P r p Create) refl h
-    where
-      go : (b : Bool) → may_by m P r p Create ≡ b → (b || may_by m P r p Update) ≡ true
-          → may_at (for_rules P tops) r q Create ≡ true
-      go true e h = may-all m r p q Create e
-      go false e h =
-          at-all r q Create (may-weaker r Create Update create-covered (own-may m r p Update h))
-  item-allowed m r p q Update h = may-all m r p q Update h
-  item-allowed m r p q Delete h = may-all m r p q Delete h
-
   -- Nothing is ignored, so what is below a path that is reached is reached.
   below-reached : (p q : Path) → is_path q ≡ true → is_over p q ≡ true
       → reach (for_rules P tops) p ≡ true → reach (for_rules P tops) q ≡ true
@@ -128,86 +104,91 @@ module _ (P : Parts) (tops : List Path) where
       (is_over-transitive s p q (and_parts (is_over s p) (is_open (for_rules P tops) s p) e).0 over)
       (ap not (none-over s (prefixes q)))) parts.1)
 
-  reached : (m : Matching) → IsMatching m → cover tops P.paths ≡ true → (p : Path)
-      → IsTrue (reach_by m P p) → IsTrue (reach (for_rules P tops) p)
-  unfolding reach
-  reached m known all p h = tops-reach m known P tops [] all p h
+module _ (W : Written) (tops : List Path) where
+  own-may : (m : Matching) (r p : Path) (v : Verb) → may_by m W r p v ≡ true → may W.parts r v ≡ true
+  own-may m r p v h = (and_parts (may W.parts r v) (not (some_bars m W r p v)) h).0
 
-  written : (m : Matching) (r p : Path) → writes_by m P r p ≡ true
-      → writes_at (for_rules P tops) r p ≡ true
+  may-all : (m : Matching) (r p q : Path) (v : Verb) → may_by m W r p v ≡ true
+      → may_at (for_rules W.parts tops) r q v ≡ true
+  may-all m r p q v h = at-all W.parts tops r q v (may-weaker W.parts tops r v v (covered v) (own-may m r p v h))
+
+  -- What may be done at an item or below it, may be done at each path.
+  item-allowed : (m : Matching) (r p q : Path) (v : Verb) → may_item m W r p v ≡ true
+      → may_at (for_rules W.parts tops) r q v ≡ true
+  item-allowed m r p q Create h = go (may_by m W r p Create) refl h
+    where
+      go : (b : Bool) → may_by m W r p Create ≡ b → (b || may_by m W r p Update) ≡ true
+          → may_at (for_rules W.parts tops) r q Create ≡ true
+      go true e h = may-all m r p q Create e
+      go false e h =
+          at-all W.parts tops r q Create (may-weaker W.parts tops r Create Update create-covered (own-may m r p Update h))
+  item-allowed m r p q Update h = may-all m r p q Update h
+  item-allowed m r p q Delete h = may-all m r p q Delete h
+
+  reached : (m : Matching) → cover tops W.parts.paths ≡ true → (p : Path) → IsTrue (reach_by m W p)
+      → IsTrue (reach (for_rules W.parts tops) p)
+  unfolding reach
+  reached m all p h = tops-reach m W tops [] all p h
+
+  written : (m : Matching) (r p : Path) → writes_by m W r p ≡ true
+      → writes_at (for_rules W.parts tops) r p ≡ true
   written m r p h =
-      let parts = and_parts (has_root P r)
-      ((may_by m P r p Create || may_by m P r p Update) || may_by m P r p Delete) h in
-      and_from (has_root P r)
-      ((may_at (for_rules P tops) r p Create || may_at (for_rules P tops) r p Update)
-      || may_at (for_rules P tops) r p Delete) parts.0
-      (three-weaker (may_by m P r p Create) (may_by m P r p Update) (may_by m P r p Delete)
-      (may_at (for_rules P tops) r p Create) (may_at (for_rules P tops) r p Update)
-      (may_at (for_rules P tops) r p Delete) (may-all m r p p Create) (may-all m r p p Update)
+      let parts = and_parts (has_root W.parts r)
+      ((may_by m W r p Create || may_by m W r p Update) || may_by m W r p Delete) h in
+      and_from (has_root W.parts r)
+      ((may_at (for_rules W.parts tops) r p Create || may_at (for_rules W.parts tops) r p Update)
+      || may_at (for_rules W.parts tops) r p Delete) parts.0
+      (three-weaker (may_by m W r p Create) (may_by m W r p Update) (may_by m W r p Delete)
+      (may_at (for_rules W.parts tops) r p Create) (may_at (for_rules W.parts tops) r p Update)
+      (may_at (for_rules W.parts tops) r p Delete) (may-all m r p p Create) (may-all m r p p Update)
       (may-all m r p p Delete) parts.1)
 
-  rules-cautious : cover tops P.paths ≡ true → IsCautious P (for_rules P tops)
+  rules-cautious : cover tops W.parts.paths ≡ true → IsCautious W (for_rules W.parts tops)
   rules-cautious all = record {
     name = refl;
     roots = refl;
-    reach = λ m known. reached m known all;
+    reach = λ m known. reached m all;
     write = λ m known r p h.
-        let parts = and_parts (writes_by m P r p) (reach_by m P p) h in
-        and_from (writes_at (for_rules P tops) r p) (reach (for_rules P tops) p)
-        (written m r p parts.0) (reached m known all p parts.1);
+        let parts = and_parts (writes_by m W r p) (reach_by m W p) h in
+        and_from (writes_at (for_rules W.parts tops) r p) (reach (for_rules W.parts tops) p)
+        (written m r p parts.0) (reached m all p parts.1);
   }
 
 -- The reading beside rules.
-pub rules-read : (Rs : List Rule) (P : Parts) (tops : List Path) → cover tops P.paths ≡ true
-    → IsReadingOf Rs P (for_rules P tops)
-rules-read Rs P tops all = record {
-  cautious = rules-cautious P tops all;
+pub rules-read : (Rs : List Rule) (W : Written) (tops : List Path) → cover tops W.parts.paths ≡ true
+    → IsReadingOf Rs W (for_rules W.parts tops)
+rules-read Rs W tops all = record {
+  cautious = rules-cautious W tops all;
   breaches = λ m known k R at b. (
     b.1,
     b.2,
-    below-reached P tops b.0 b.1 b.3 b.4 (reached P tops m known all b.0 b.5),
-    item-allowed P tops m R.root b.0 b.1 R.verb b.6,
+    below-reached W.parts tops b.0 b.1 b.3 b.4 (reached W tops m all b.0 b.5),
+    item-allowed W tops m R.root b.0 b.1 R.verb b.6,
     b.7,
   );
 }
 
 -- The reading where there are no rules.
-pub cautious-read : (P C : Parts) → IsCautious P C → IsReadingOf [] P C
-cautious-read P C c =
+pub cautious-read : (W : Written) (C : Parts) → IsCautious W C → IsReadingOf [] W C
+cautious-read W C c =
     record { cautious = c; breaches = λ m known k R at b. absurd (none-some R at) }
 
--- One more reading.
-pub read-none : (Rs : List Rule) → AreReadForUnison [] Rs []
-read-none Rs = record { count = refl; each = λ i P at. absurd (none-some P at) }
-
-pub read-push : (Ps Cs : List Parts) (Rs : List Rule) (P C : Parts) → AreReadForUnison Ps Rs Cs
-    → IsReadingOf Rs P C → AreReadForUnison (Ps ++ P ∷ []) Rs (Cs ++ C ∷ [])
-read-push Ps Cs Rs P C read one = record {
-  count = length-append Cs (C ∷ []) ∙ (ap (λ n. n + 1) read.count ∙ sym (length-append Ps (P ∷ [])));
-  each = λ i Q at.
-      ⊎_elim
-      (λ old. let e = read.each i Q old in (e.0, snoc-old Cs C e.0 i e.1, e.2))
-      (λ new. (
-        C,
-        subst (λ n. slice_get (Cs ++ C ∷ []) n ≡ Some C) (sym (new.0 ∙ sym read.count))
-            (snoc-new Cs C),
-        subst (λ D. IsReadingOf Rs D C) new.1 one,
-      ))
-      (snoc-cases Ps P Q i at);
-}
-
 -- What follows if the readings are safe.
-pub read-safe : (Ps : List Parts) (Rs : List Rule) (Cs : List Parts) (Ss : List safe.Rule)
-    → AreReadForUnison Ps Rs Cs → safe.IsSafe Cs Ss → IsSafeInUnison Ps
-read-safe Ps Rs Cs Ss read safe =
-    safe_in_unison Ps Cs Ss
-    (record { each = λ i P at. let c = read.each i P at in (c.0, c.1, c.2.cautious) }) safe
+pub read-safe : (Ws : List Written) (Rs : List Rule) (Cs : List Parts) (Ss : List safe.Rule)
+    → AreReadForUnison Ws Rs Cs → safe.IsSafe Cs Ss → ShareNoArchive Cs → IsSafeInUnison Ws
+read-safe Ws Rs Cs Ss read safe archives =
+    safe_in_unison Ws Cs Ss
+    (record {
+      count = read.count;
+      each = λ i W at. let c = read.each i W at in (c.0, c.1, c.2.cautious);
+    })
+    safe archives
 
-pub read-keeps : (Ps : List Parts) (Rs : List Rule) (Cs : List Parts) (Ss : List safe.Rule)
-    → Ss ≡ map forbidden Rs → AreReadForUnison Ps Rs Cs → safe.IsSafe Cs Ss
-    → KeepsRulesInUnison Ps Rs
-read-keeps Ps Rs Cs Ss are read safe m known i k P R at own breach =
-    let c = read.each i P at in
+pub read-keeps : (Ws : List Written) (Rs : List Rule) (Cs : List Parts) (Ss : List safe.Rule)
+    → Ss ≡ map forbidden Rs → AreReadForUnison Ws Rs Cs → safe.IsSafe Cs Ss
+    → KeepsRulesInUnison Ws Rs
+read-keeps Ws Rs Cs Ss are read safe m known i k W R at own breach =
+    let c = read.each i W at in
     safe.no_breach i k c.0 (forbidden R) c.1
     (ap (λ rs. slice_get rs k) are ∙ (slice_get-map forbidden Rs k ∙ ap (option_map forbidden) own))
     (c.2.breaches m known k R own breach)

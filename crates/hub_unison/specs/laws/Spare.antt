@@ -13,7 +13,7 @@ use Rattle.hub_path.specs.Path.{Path}
 use Rattle.hub_glob.specs.Glob.{Texts, splits, is_run, piece, pieces, glob, choices, no_more, matches, by_kind}
 use Rattle.hub_glob.specs.laws.OneStep.{run_step, run_end, takes_run, nonzero}
 use Rattle.hub_glob.specs.laws.Choice.{glob_choices}
-use Rattle.hub_unison.specs.Matching.{sure_pieces, sure_text, is_known, is_simple, is_simple_member, is_odd, all_simple, all_known, of_kind, surely}
+use Rattle.hub_unison.specs.Matching.{sure_pieces, sure_text, is_known, is_simple, is_simple_member, is_odd, is_unknown, all_simple, all_known, of_kind, spec_surely}
 use Rattle.hub_unison.specs.Spares.{dotted, spares, pattern_spares, is_plain, IsSpare}
 use Rattle.hub_unison.specs.laws.Pattern.{by_kind-of, of_kind-weaker, of_kind-or}
 use Rattle.hub_unison.specs.laws.Piece.{any-where, all-weaker, same-number, run-mono, member-passes}
@@ -259,7 +259,7 @@ pub spared : (ps : List Piece) (flag first : Bool) (t : List ℕ) → list_all i
 spared [] flag first t simple allowed h = ap (λ b. b || false) h
 spared (Lit c ∷ ps) flag first [] simple allowed h = absurd (no h)
 spared (Lit c ∷ ps) flag first (d ∷ t) simple allowed h =
-    let facts = and_parts (not (c == 62)) (list_all is_simple ps) simple in
+    let facts = and_parts (not (is_unknown c)) (list_all is_simple ps) simple in
     let parts = and_parts (d == c) (pieces ps no_more (d == 47) t) h in
     let same = same-number d c parts.0 in
     let rest = spared ps (d == 47) (d == 47) t facts.1 (later-allowed (d == 47) t) parts.1 in
@@ -323,8 +323,8 @@ spared_text ps t simple h =
     (sym (glob_choices ps true t) ∙ h)))
 
 pub spared-matches : (s spare : Specification) (p : Path) → all_simple s.pattern ≡ true
-    → IsSpare s spare → matches s p ≡ true → (surely s p || matches spare p) ≡ true
-unfolding matches surely
+    → IsSpare s spare → matches s p ≡ true → (spec_surely s p || matches spare p) ≡ true
+unfolding matches spec_surely
 spared-matches s spare p simple is h =
     let parts = and_parts (not (length p == 0)) (by_kind s.kind s.pattern p) h in
     let either = sym (of_kind-or s.kind (sure_text s.pattern) (glob spare.pattern true) p)
@@ -340,8 +340,8 @@ spared-matches s spare p simple is h =
 
 -- Without spares, Unison matches it for certain.
 pub plain-matches : (s : Specification) (p : Path) → is_plain s.pattern ≡ true
-    → matches s p ≡ true → surely s p ≡ true
-unfolding matches surely
+    → matches s p ≡ true → spec_surely s p ≡ true
+unfolding matches spec_surely
 plain-matches s p plain h =
     let two = and_parts (all_simple s.pattern) (length (pattern_spares s.pattern) == 0) plain in
     let parts = and_parts (not (length p == 0)) (by_kind s.kind s.pattern p) h in

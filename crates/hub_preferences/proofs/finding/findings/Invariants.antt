@@ -5,7 +5,7 @@ use Rattle.hub_preferences.proofs.finding.findings.Given as goal
 
 abbrev pub invariant-loop-line : goal.invariant-loop-line
 invariant-loop-line l = record {
-  found : findings_of l.fn.bundle ≡ l.findings.items ++ findings_from l.section (l.number + 1) (lines_of l.lines);
+  found : findings_of l.fn.bundle ≡ l.findings.items ++ findings_from l.roots.items l.section (l.number + 1) (lines_of l.lines);
   fits : l.number + length l.lines ≤ length l.fn.bundle;
 }
 

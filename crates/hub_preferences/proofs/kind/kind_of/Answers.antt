@@ -11,8 +11,8 @@ pub returns-in-Ok : goal.returns-in-Ok
 returns-in-Ok c =
     let l = c.args.line.now in
     let text = c.in-Ok.ensures.cases in
-    let here : kind_of_text (chars c.line_text.result.now) ≡ kind_of_text (trimmed_line (chars l)) = ap kind_of_text (c.line_text.ensures ∙ ap (λ t. trimmed_line (chars t)) text.0) in
-    let whole : kind_of l ≡ kind_of_text (trimmed_line (chars l)) = rw (is_utf8-from_IsUtf8 l text.1) refl in
+    let here : kind_of_text c.args.roots.now (chars c.line_text.result.now) ≡ kind_of_text c.args.roots.now (trimmed_line (chars l)) = ap (kind_of_text c.args.roots.now) (c.line_text.ensures ∙ ap (λ t. trimmed_line (chars t)) text.0) in
+    let whole : kind_of c.args.roots.now l ≡ kind_of_text c.args.roots.now (trimmed_line (chars l)) = rw (is_utf8-from_IsUtf8 l text.1) refl in
     subst (λ e. IfOk c.kind_of_text.result (λ k. k ≡ e)) (here ∙ sym whole) c.kind_of_text.ensures
 
 pub returns-in-Err : goal.returns-in-Err

@@ -1,7 +1,8 @@
 use Rattle.std.proofs.Common.{inl, inr, refl, subst}
 use Rattle.std.proofs.lemmas.Result.{IfErr-weaker, IfOk-weaker}
 use Rattle.hub_serve.specs.Rounds.{IsUncut}
-use Rattle.hub_serve.proofs.ByRounds.{set-run, uncut, unverified-run}
+use Rattle.hub_cli.specs.declared.words.Reading.TheVariants.{Plain}
+use Rattle.hub_serve.proofs.ByRounds.{plain-lines, set-run, uncut, unverified-run}
 use Rattle.hub_serve.proofs.by_rounds.report_on_all.Goals as goal
 
 pub returns-in-Ok-clause-told : goal.returns-in-Ok-clause-told
@@ -19,5 +20,5 @@ pub returns-in-Err-NotVerified-clause-told : goal.returns-in-Err-NotVerified-cla
 returns-in-Err-NotVerified-clause-told g c = λ all f cs.
     let n = c.in-Err-NotVerified in (
       inr (c.args.workers, c.args.state, refl),
-      subst (IsUncut c.args.set) n.field-0-is (uncut c.args.set c.args.clashes.now n.field-0 (inl all) n.ensures.refused),
+      subst (IsUncut Plain c.args.set) n.field-0-is (uncut Plain c.args.set c.args.clashes.now n.field-0 (plain-lines c.args.set c.args.clashes.now (inl all)) n.ensures.refused),
     )

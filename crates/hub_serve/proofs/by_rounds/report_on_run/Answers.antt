@@ -1,6 +1,7 @@
 use Rattle.std.proofs.Common.{◌≡◌, IfErr, IfOk, false, refl, subst}
 use Rattle.hub_rounds.specs.Unverified.{is_memory}
 use Rattle.hub_serve.specs.ByRounds.{HasRunByRounds}
+use Rattle.hub_cli.specs.declared.words.Reading.TheVariants.{Plain}
 use Rattle.hub_serve.specs.Rounds.{HasUnverifiedRound}
 use Rattle.hub_serve.proofs.by_rounds.report_on_run.Goals as goal
 
@@ -10,4 +11,4 @@ returns-in-Ok-clause-told c = λ M n S h no cs.
 
 pub returns-in-Err-clause-told : goal.returns-in-Err-clause-told
 returns-in-Err-clause-told c = λ M n S h no cs.
-    c.report_on_unverified.ensures.told M n S (subst (λ r. IfErr r (λ e. is_memory e ≡ false → HasUnverifiedRound M)) c.in-Err.is no) cs
+    c.report_on_unverified.ensures.told M n S (subst (λ r. IfErr r (λ e. is_memory e ≡ false → HasUnverifiedRound Plain M)) c.in-Err.is no) cs

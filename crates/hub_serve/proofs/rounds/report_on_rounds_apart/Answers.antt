@@ -9,10 +9,10 @@ returns-in-Ok-clause-told c = λ S ps rs put cs.
     let lines = apart-lines S c.args.profiles c.args.rules c.in-Ok.found.lines ps rs put f.lines in
     let of_ps = ps ∙ sym f.profiles in
     let of_rs = rs ∙ sym f.rules in
-    c.report_on_cut.ensures.told S (c.cut_apart.ensures.cut S of_ps of_rs lines) (c.cut_apart.ensures.uncut S of_ps of_rs lines) cs
+    c.report_on_cut.ensures.told c.args.reading S (c.cut_apart.ensures.cut S of_ps of_rs lines) (c.cut_apart.ensures.uncut S of_ps of_rs lines) cs
 
 pub returns-in-Err-clause-told : goal.returns-in-Err-clause-told
 returns-in-Err-clause-told c = λ S ps rs put cs.
     let e = c.in-Err.fault in
     let refused = apart-refused S c.args.profiles c.args.rules e ps rs c.in-Err.ensures.refused in
-    refused-told task.Rounds S cs e c.refusal_without_set.result (put, refused) (c.refusal_without_set.ensures.line S (apart-no_numbers S e refused))
+    refused-told (task.Rounds c.args.reading) S cs e c.refusal_without_set.result (put, refused) (c.refusal_without_set.ensures.line S (apart-no_numbers S e refused))

@@ -5,8 +5,9 @@ use Rattle.hub_serve.proofs.verdict.report_on_made.Goals as goal
 pub returns-in-Check-clause-told : goal.returns-in-Check-clause-told
 returns-in-Check-clause-told g c =
     let own = c.args.own.now in
-    done-told c.args.task task.Check c.args.set own c.or_refusal.result c.in-Check.is
-    (c.or_refusal.ensures.told task.Check own (c.report_on_safety.ensures.told own) (c.report_on_safety.ensures.refused own))
+    let to_do = task.Check c.in-Check.reading in
+    done-told c.args.task to_do c.args.set own c.or_refusal.result c.in-Check.is
+    (c.or_refusal.ensures.told to_do own (c.report_on_safety.ensures.told own) (c.report_on_safety.ensures.refused own))
 
 pub returns-in-RunJobs-clause-told : goal.returns-in-RunJobs-clause-told
 returns-in-RunJobs-clause-told g c =
@@ -36,14 +37,14 @@ returns-in-Verify-clause-told g c =
 pub returns-in-Clashes-clause-told : goal.returns-in-Clashes-clause-told
 returns-in-Clashes-clause-told g c =
     let own = c.args.own.now in
-    done-told c.args.task task.Clashes c.args.set own c.report_on_clashes.result c.in-Clashes.is (c.report_on_clashes.ensures.told own)
+    done-told c.args.task (task.Clashes c.in-Clashes.reading) c.args.set own c.report_on_clashes.result c.in-Clashes.is (c.report_on_clashes.ensures.told own)
 
 pub returns-in-Graph-clause-told : goal.returns-in-Graph-clause-told
 returns-in-Graph-clause-told g c =
     let own = c.args.own.now in
-    done-told c.args.task task.Graph c.args.set own c.report_on_graph.result c.in-Graph.is (c.report_on_graph.ensures.told own)
+    done-told c.args.task (task.Graph c.in-Graph.reading) c.args.set own c.report_on_graph.result c.in-Graph.is (c.report_on_graph.ensures.told own)
 
 pub returns-clause-told : goal.returns-clause-told
 returns-clause-told g c =
     let own = c.args.own.now in
-    done-told c.args.task task.Rounds c.args.set own c.report_on_rounds.result c.in-Rounds.is (c.report_on_rounds.ensures.told own)
+    done-told c.args.task (task.Rounds c.in-Rounds.reading) c.args.set own c.report_on_rounds.result c.in-Rounds.is (c.report_on_rounds.ensures.told own)

@@ -2,6 +2,7 @@ use Rattle.std.proofs.Common.{◌∙◌, List, refl, subst, sym}
 use Rattle.hub_cert.specs.Set.{Members}
 use Rattle.hub_cert.specs.declared.certificate.Certificate.{Certificate}
 use Rattle.hub_bundle.specs.Sections.{members}
+use Rattle.hub_serve.specs.declared.task.Task.TheVariants as task
 use Rattle.hub_serve.specs.Told.{IsToldOfSet}
 use Rattle.hub_serve.proofs.Told.{apart-told, lacks-state, refusal-told, set-told}
 use Rattle.hub_serve.proofs.verdict.report_on_set.Goals as goal
@@ -14,7 +15,8 @@ returns-then-puts_apart-clause-told g c =
     let S = members c.args.contents in
     apart-told c.args.question c.args.contents c.in-Some.task (sym c.in-Some.ensures) c.report_on_rounds_apart.result
     (sym (c.puts_apart.ensures S (sym c.as_slice.ensures) (sym c.as_slice-2.ensures.value)) ∙ c.if-puts_apart.true)
-    (λ put. c.report_on_rounds_apart.ensures.told S refl refl put c.args.contents.certificates)
+    (λ put. subst (λ reading. IsToldOfSet (task.Rounds reading) S c.args.contents.certificates c.report_on_rounds_apart.result) c.reading.ensures
+    (c.report_on_rounds_apart.ensures.told S refl refl put c.args.contents.certificates))
 
 pub returns-in-Ok-clause-told : goal.returns-in-Ok-clause-told
 returns-in-Ok-clause-told g c =

@@ -1,7 +1,7 @@
 use Rattle.std.proofs.Common.{◌≡◌, string_bytes, take}
 use Rattle.std.specs.List.{flat_map}
 use Rattle.hub_report.specs.Refusal.{refusal_line}
-use Rattle.hub_report.proofs.refusal.lines_of_clashes.Given as goal
+use Rattle.hub_report.proofs.refusal.lines_of_faults.Given as goal
 
 abbrev pub invariant-loop-fault : goal.invariant-loop-fault
 invariant-loop-fault l =

@@ -8,7 +8,19 @@ import sys
 import tempfile
 
 TOP = os.path.dirname(os.path.dirname(os.path.realpath(__file__)))
+UNISON = os.environ.get('UNISON_PROGRAM', 'unison')    # another version, to be compared
 NAMES = ['a', 'b', 'c', '.a', '.b', '.tmp', 'x.tmp', 'a.b', '.x.tmp', 'é', 'éa', 'ab', 'a b', '[a]']
+# Names with characters that patterns or lines give a meaning, with control characters, and with an accent in its other form.
+ODD_NAMES = ['e\u0301', 'a\x01', '\x0b', 'a\x7fb', 'a\tb', 'a ', 'b ', '{a', 'a}', '{a,b}', 'a,b', '\\a', 'a\\b', 'a -> b', 'a->b',
+             '->', '!a', '^a', '#a', '%a', 'a=b', '=', 'a\u00a0b', '\u0085', '[a', 'a]', 'a?', '-', "a'b", '$a', '~', 'A', 'É', '..a',
+             'a..']
+BLANKS = ['\r', '\t', ' ', '\r\r', ' \r', '\r ', '\t\r', '\r\t\r', '  ']    # what Unison drops at the ends of names and values
+TRIMMED = ' \t\r'    # the characters that Unison drops there
+CONTROLS = [chr(code) for code in range(32) if chr(code) not in '\t\n\r'] + ['\x7f', '\x85', '\xa0', '\u2028', '\ufeff']
+ODD_PIECES = ['\\*', '\\?', '\\{', '\\}', '\\,', '\\[', '\\\\', '\\a', '{{a,b},c}', '{a,{b,{c,}}}', '{,{a,}b}', '{a,b', '[{a,b}]',
+              '{[ab],c}', '{a\\,b,c}', '[ab', 'a]', '[]a]', '[a-]', '[-a]', '[b-a]', '[^a]', '[!ab]', '[é]', '[e\u0301]', 'é',
+              'e\u0301', '->', ' -> ', ' -> a', 'a -> ', ' ->', '-> ', ' ->  ', '//', '/', './', '/.', '/*', '#', '%', '=', '"', "'",
+              '$', '~', '{', '}', ',', '[', ']', '-', '!', '^', '.', '..', '(', '|']
 # Lines that hold changes back, or that have no influence on what is synchronized.
 HARMLESS = ['maxsizethreshold = 1', 'maxerrors = 1', 'mountpoint = a', 'immutable = Path a', 'immutablenot = Path b', 'ignorearchives = true',
             'links = false', 'fastercheckUNSAFE = true', 'ignoreinodenumbers = true', 'times = true', 'perms = 0', 'owner = true',
@@ -19,6 +31,14 @@ HARMLESS = ['maxsizethreshold = 1', 'maxerrors = 1', 'mountpoint = a', 'immutabl
             'stream = false', 'xferbycopying = false', 'halfduplex = true', 'sshargs = -C', 'confirmbigdel = false', 'auto = true']
 
 
+def jobs():
+    """The number behind `--jobs` in the words of the command line, which is taken out of them, or 1."""
+    if sys.argv[1:2] != ['--jobs']:
+        return 1
+    _, number = sys.argv.pop(1), (sys.argv.pop(1) if len(sys.argv) > 1 else '')
+    return int(number) if number.isdigit() and int(number) > 0 else sys.exit('--jobs takes a number from 1 on')
+
+
 def words(name, doc, count):
     """The program, the number and the first seed that the words of the command line name."""
     if any(word.startswith('-') for word in sys.argv[1:]) or len(sys.argv) > 4:
@@ -26,8 +46,8 @@ def words(name, doc, count):
     program = os.path.realpath(sys.argv[1] if len(sys.argv) > 1 else os.path.join(TOP, 'dist/hubsync'))
     if not os.access(program, os.X_OK):
         sys.exit(name + ': there is no program at ' + program)
-    version = subprocess.run(['unison', '-version'], stdout=subprocess.PIPE).stdout.decode()
-    if not version.startswith('unison version 2.52'):
+    version = subprocess.run([UNISON, '-version'], stdout=subprocess.PIPE).stdout.decode()
+    if UNISON == 'unison' and not version.startswith('unison version 2.52'):
         print(name + ': was not tried: ' + version.strip() + ' is not 2.52')
         sys.exit(0)
     return program, int((sys.argv[2:3] or [count])[0]), int((sys.argv[3:4] or [1])[0])
@@ -82,11 +102,76 @@ def profile(rng, roots):
     return lines
 
 
-def tree(rng, depth=3):
+def escaped(text):
+    """A pattern that matches this text alone."""
+    return re.sub(r'([*?\[\]{}\\,])', r'\\\1', text)
+
+
+def odd_component(rng, names):
+    """A part of a pattern that is near to one of these names, or odd."""
+    name = rng.choice(names)
+    at = rng.randrange(len(name))
+    one = rng.choice(['?', '*', '', '\\' + name[at], '[' + name[at] + ']', '{' + name[at] + ',b}', rng.choice(CONTROLS)])
+    pieces = ''.join(rng.choice(ODD_PIECES + names) for _ in range(rng.choice([1, 1, 2, 3])))
+    return rng.choice([name, escaped(name), escaped(name), name[:at] + one + name[at + 1:], pieces])
+
+
+def odd_value(rng, name, value, names):
+    """The value of a line with a part that is near to a name of the trees, or odd, in the place of its pattern or path."""
+    text = '/'.join(odd_component(rng, names) for _ in range(rng.choice([1, 1, 1, 2])))
+    if name == 'path':
+        return text
+    kind, _, rest = value.partition(' ')
+    arrow = ' -> ' + rest.rpartition(' -> ')[2] if name.endswith('partial') and ' -> ' in rest else ''
+    return rng.choice(['Name', 'Path', 'Path', 'BelowPath']) + ' ' + text + arrow if kind in ('Name', 'Path', 'BelowPath') else value
+
+
+def with_piece(rng, line):
+    """The line with blanks or a control character in it. Unison refuses most control characters outside of a pattern."""
+    name, _, value = line.partition(' = ')
+    blank = rng.choice(BLANKS)
+    odd = blank if rng.random() < 0.8 else rng.choice(CONTROLS)
+    place = rng.random()
+    if place < 0.4:
+        return line + odd
+    kind, _, rest = value.partition(' ')
+    if place < 0.6 and rest and name != 'root':
+        return f'{name} = {kind} {odd}{rest}'
+    if place < 0.7 and ' -> ' in rest:
+        return line.replace(' -> ', rng.choice([odd + ' -> ', ' -> ' + odd, odd + '-> ', ' ->' + odd, odd + '->' + odd]))
+    if place < 0.8 and name != 'root':
+        at = rng.randrange(len(value) + 1)
+        return f'{name} = {value[:at]}{rng.choice([blank, rng.choice(CONTROLS), rng.choice(ODD_PIECES)])}{value[at:]}'
+    return rng.choice([blank + line, f'{name}{blank}= {value}', f'{name}={blank}{value}', f'{name} = {odd}{value}', f'{name} {blank}= {value}'])
+
+
+def excepted(rng, names):
+    """Lines that ignore what has one of these names, and except it again if Unison drops the blanks at an end of the pattern."""
+    text = escaped(rng.choice(names))
+    kind = lambda: rng.choice(['Name', 'Path', 'BelowPath'])
+    shape = rng.choice(['{}', '{}', '{{{},b}}', '{{b,{}}}', '*{}', '{}*'])
+    return [f'ignore = {kind()} {rng.choice([text, text, "?*", "*" + text])}', with_piece(rng, f'ignorenot = {kind()} {shape.format(text)}')]
+
+
+def widened(rng, lines, names):
+    """The lines with odd patterns and paths in place of some, with blanks and control characters in them, or with other line ends."""
+    lines = lines + (excepted(rng, names) if rng.random() < 0.5 else [])
+    odd = rng.choice([0, 0, 0.2, 0.5])    # an `ignorenot` that hubsync can't read takes all `ignore` lines away, so often there is none
+    made = []
+    for line in lines:
+        name, _, value = line.partition(' = ')
+        if (name in ('path', 'ignore', 'ignorenot') or name.endswith('partial')) and rng.random() < odd:
+            line = f'{name} = {odd_value(rng, name, value, names)}'
+        made.append(with_piece(rng, line) if rng.random() < 0.12 else line)
+    end = rng.choice(['\r', '\r\r', ' \r', '\r\r\r']) if rng.random() < 0.15 else ''
+    return [line + end for line in made]
+
+
+def tree(rng, depth=3, names=NAMES):
     """A random tree: a dict of names to bytes or trees."""
     made = {}
-    for name in rng.sample(NAMES, rng.randrange(1, 6 if depth == 3 else 5)):
-        made[name] = tree(rng, depth - 1) if depth > 1 and rng.random() < 0.55 else content(rng)
+    for name in rng.sample(names, rng.randrange(1, 6 if depth == 3 else 5)):
+        made[name] = tree(rng, depth - 1, names) if depth > 1 and rng.random() < 0.55 else content(rng)
     return made
 
 
@@ -98,7 +183,7 @@ def copy(made):
     return {name: copy(it) if isinstance(it, dict) else it for name, it in made.items()}
 
 
-def edit(rng, made, times):
+def edit(rng, made, times, names=NAMES):
     """Changes, removes or adds something, at random places."""
     for _ in range(times):
         at = made
@@ -107,14 +192,14 @@ def edit(rng, made, times):
             if not below or rng.random() < 0.35:
                 break
             at = rng.choice(below)
-        name = rng.choice(list(at) if at and rng.random() < 0.6 else NAMES)
+        name = rng.choice(list(at) if at and rng.random() < 0.6 else names)
         what = rng.random()
         if what < 0.3:
             at.pop(name, None)
         elif what < 0.75:
             at[name] = content(rng)
         else:
-            at[name] = tree(rng, 2)
+            at[name] = tree(rng, 2, names)
 
 
 def write(made, folder):
@@ -159,7 +244,7 @@ def start(room, name, lines, folder=None):
     os.makedirs(unison, exist_ok=True)
     with open(os.path.join(unison, name + '.prf'), 'w') as file:
         file.write('\n'.join(lines) + '\n')
-    words = ['unison', name, '-batch', '-ui', 'text', '-silent', '-confirmbigdel=false', '-log=false', '-backupdir', os.path.join(room, 'kept')]
+    words = [UNISON, name, '-batch', '-ui', 'text', '-silent', '-confirmbigdel=false', '-log=false', '-backupdir', os.path.join(room, 'kept')]
     return subprocess.Popen(words, env={**os.environ, 'UNISON': unison, 'HOME': room}, stdin=subprocess.DEVNULL, stdout=subprocess.DEVNULL,
                             stderr=subprocess.DEVNULL)
 

@@ -136,11 +136,11 @@ try_parts() {
     put parts/photos.prf 'path = photos' 'source? base.prf'
     put parts/tab.prf $' root\t= /srv/hub' 'root= /srv/tab' 'path = tab'
     ask 0 rounds --unison parts <<LINES
-rounds 1
-at least 1
+rounds 2
+at least 2
 round 1 docs
-round 1 photos
 round 1 tab
+round 2 photos
 hubsync: note: docs and photos have the same two roots
 hubsync: note: Unison locks the archive of two roots: don't run these profiles at once
 $assumed
@@ -168,10 +168,10 @@ overlap: base writes photos at archive of /srv/hub and /srv/desk, photos reaches
 overlap: photos writes photos at /srv/hub, base reaches photos
 overlap: photos writes photos at /srv/desk, base reaches photos
 overlap: photos writes photos at archive of /srv/hub and /srv/desk, base reaches photos
+same archive: base and photos have the roots /srv/hub and /srv/desk
 hubsync: base has no line path, so it has all of its roots
 hubsync: photos, line 1 (parts/photos.prf line 1): path = photos
-$lines
-hubsync: base: ignore = Path photos
+hubsync: run one after the other, or give one other paths, an ignore or a bar
 $wider
 hubsync: without --unison: overlap: base writes photos at /srv/hub, photos reaches photos
 LINES
@@ -593,16 +593,19 @@ hubsync: lines that don't count, as Unison does no less without them: 5, first i
 LINES
 }
 
-# What the program answers to a folder, and to the bundle that is imported of it, is the same.
+# What the program answers for Unison to a folder, and plainly to the bundle that is imported of it, is the same, but for two profiles that
+# share an archive: their lines are left out here, and rounds are asked for Unison both times.
 #
 #     try_bundle FOLDER HOSTS
 try_bundle() {
-    local command
+    local command reading
     "$program" import "$1" --hosts "$2" >"$room/bundle" 2>/dev/null </dev/null || complain "import $1: there is no bundle"
     for command in check clashes rounds; do
         asked=$((asked + 1))
-        "$program" "$command" --unison "$1" --hosts "$2" >"$room/written" 2>/dev/null </dev/null || true
-        { "$program" "$command" <"$room/bundle" 2>/dev/null || true; } | compare "$command: the folder $1 and its bundle" "$room/written"
+        reading=()
+        [ "$command" != rounds ] || reading=(--unison)
+        { "$program" "$command" --unison "$1" --hosts "$2" 2>/dev/null </dev/null || true; } | sed '/^same archive: /d' >"$room/written"
+        { "$program" "$command" "${reading[@]}" <"$room/bundle" 2>/dev/null || true; } | compare "$command: the folder $1 and its bundle" "$room/written"
     done
 }
 

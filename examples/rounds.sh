@@ -74,30 +74,30 @@ SCRIPT
     export NOTES=$PWD/notes
 }
 
-# All runs, with one that was stopped and is tried again. The two profiles of one pair have one folder, and run one after another.
+# All runs, with one that was stopped and is tried again. The two profiles of one pair have one folder, and stand in different rounds.
 try_stand_in() {
     ask 0 --unison ./unison --dry-run prf
-    compare 'a dry run' written <<<$'round 1 docs\nround 1 photos\nround 2 home'
+    compare 'a dry run' written <<<$'round 1 docs\nround 2 home\nround 3 photos'
     ask 0 --only-check prf
     [ ! -s written ] || complain '--only-check prints something'
     [ ! -e prf/by-pair ] || complain 'a dry run makes a folder'
     ask 0 --unison ./unison prf
     compare_runs 'a stopped run' <<'LINES'
 round 1 docs: done: docs.output
-round 1 photos: stopped: photos.output
-round 1 photos: done: photos.output
 round 2 home: done: home.output
+round 3 photos: stopped: photos.output
+round 3 photos: done: photos.output
 LINES
     cut -d ' ' -f 1-2 notes >order
     compare 'the order of the runs' order <<'LINES'
 start docs
 end docs
-start photos
-end photos
-start photos
-end photos
 start home
 end home
+start photos
+end photos
+start photos
+end photos
 LINES
     [ "$(awk '$1 == "start" { print $3 }' notes | sort -u | wc -l)" = 2 ] || complain 'there is not one folder for each pair'
     compgen -G 'prf/by-pair/*/photos.output' >/dev/null || complain 'what Unison said is not kept'
@@ -249,7 +249,7 @@ try_refused() {
 prf/common:3: Unison stops at this: batch = yes: it refuses this: write true or false
 prf/common:5: Unison stops at this: prefer = older: it wants times = true for this: add that line
 prf/common:2: refused: UnknownPreference follow: follow = Path a: hubsync has no answer for a profile with this line: run it alone
-prf/common:4: logfile = $PWD/hub/log: Unison writes this log at a root while it runs: name a file elsewhere
+prf/common:4: refused: UnknownPreference logfile in a root: logfile = $PWD/hub/log: Unison may write this log in a root: name a file that lies in none
 nothing is started: mend these lines, or name behind the folder the profiles that are to run without the others
 LINES
     sed -i '/follow/d; /batch/d; /older/d' prf/common
@@ -339,7 +339,7 @@ try_unison() {
     mkdir desk/docs
     echo new >desk/docs/a
     ask 0 prf
-    compare_runs 'rounds of real Unison' <<<$'round 1 docs: done: docs.output\nround 1 photos: done: photos.output\nround 2 home: done: home.output'
+    compare_runs 'rounds of real Unison' <<<$'round 1 docs: done: docs.output\nround 2 home: done: home.output\nround 3 photos: done: photos.output'
     compare 'what real Unison carries' home/docs/a <<<new
     echo 'of the desk' >desk/docs/a
     echo 'of the hub' >hub/docs/a

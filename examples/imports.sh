@@ -5,8 +5,9 @@
 #
 # PROGRAM is the built program (crates/hubsync/out/hubsync if left out). Asked about are the inputs of answers/unison.txt and
 # answers/imports.txt, the profiles of office/ and manual/, each by itself and all of a folder, also with rules, and profiles at random.
-# `check`, `clashes` and `rounds` of what was imported answer as the same command with `--unison` does, with the same status; so does
-# `verify` of certificates for it, if it is safe. A fault is the same. What is imported again has the same answer, and if it ignores
+# `check`, `clashes` and `rounds` of what was imported answer as the same command with `--unison` does, with the same status; where two
+# profiles share an archive, which the plain answers don't ask about, they are asked with `--unison` too. So does `verify` of certificates
+# for it, if it is safe. A fault is the same. What is imported again has the same answer, and if it ignores
 # nothing it is the same, byte for byte. A line is printed for each that is wrong. The status is 1 if there was one, else 0.
 set -euo pipefail
 if [ "${1:-}" = --help ]; then
@@ -44,7 +45,7 @@ compare() {
 #
 #     ask PLACE WORD..
 ask() {
-    local place=$1 command status=0
+    local place=$1 command status=0 reading=()
     shift
     cp "$room/bundle" "$room/input"
     "$program" import "$@" <"$room/input" >"$room/imported" 2>/dev/null || status=$?
@@ -55,11 +56,13 @@ ask() {
         compare "$place: the fault" wanted got
         return
     fi
+    answer wanted clashes --unison "$@"
+    ! grep -q '^same archive: ' "$room/wanted" || reading=(--unison)
     for command in check clashes rounds; do
         cp "$room/bundle" "$room/input"
         answer wanted "$command" --unison "$@"
         cp "$room/imported" "$room/input"
-        answer got "$command"
+        answer got "$command" "${reading[@]}"
         compare "$place: $command" wanted got
     done
     ask_again "$place"

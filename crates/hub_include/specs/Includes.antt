@@ -41,7 +41,8 @@ without_mark bytes = if begins_with mark bytes then drop 3 bytes else bytes
 
 -- The fault of a line.
 abbrev pub fault_at : Placed → Why → LinesFault
-fault_at l why = fault.Line (record { file = l.file; number = l.number; why = why })
+fault_at l why =
+    fault.Line (record { file = l.file; number = l.number; text = l.text; why = why })
 
 -- Whether a file of this name is opened.
 abbrev pub is_open : List (List ℕ) → List ℕ → Bool

@@ -1,5 +1,5 @@
 //! The text of a profile that a bundle has.
-ghost use Rattle.std.specs.Prelude.{◌≡◌, ◌∷◌, ◌++◌, [], map, is_some, IfOk, OnOk};
+ghost use Rattle.std.specs.Prelude.{◌≡◌, ◌≤◌, ◌+◌, ◌∷◌, ◌++◌, [], length, map, is_some, IfOk, OnOk};
 ghost use Rattle.hub_include.specs.Bundle as bundle;
 ghost use Rattle.hub_include.specs.Includes.{of_line};
 ghost use Rattle.hub_include.specs.Words as words;
@@ -23,6 +23,35 @@ pub fn text_of(alloc: Global, lines: &[FileLine<&str, &[u8]>]) -> Result<Vec<u8>
         push_line(&mut text, line.text)?;
     }
     Ok(text)
+}
+
+/// How many bytes there are with those of the text of these lines, which isn't made. `None` if they are more than this limit.
+pub fn bytes_with(limit: usize, bytes: usize, lines: &[FileLine<&str, &[u8]>]) -> Option<usize>
+    requires { bytes ≤ limit }
+    ensures { result ≡ bundle.bytes_with limit bytes (map of_line lines.now) }
+{
+    let mut sum = bytes;
+    for line in lines {
+        sum = bytes_with_line(limit, sum, line.text)?;
+    }
+    Some(sum)
+}
+
+/// How many bytes there are with those of a line in the text. `None` if they are more than this limit.
+fn bytes_with_line(limit: usize, bytes: usize, line: &[u8]) -> Option<usize>
+    requires { bytes ≤ limit }
+    ensures { result ≡ bundle.if_at_most limit
+        (bytes + length (bundle.before line.now ++ line.now ++ 10 ∷ [])) }
+{
+    let with_line = bytes
+        .checked_add(before(line).len())?
+        .checked_add(line.len())?
+        .checked_add(1)?;
+    if with_line <= limit {
+        Some(with_line)
+    } else {
+        None
+    }
 }
 
 /// Adds a line to a text.

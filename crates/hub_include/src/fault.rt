@@ -25,6 +25,8 @@ pub struct LineFault {
     pub file: Items<u8>,
     /// Its number in the file, from 1 on.
     pub number: usize,
+    /// Its bytes, without the LF.
+    pub text: Items<u8>,
     /// What is wrong with it.
     pub why: Why,
 }

@@ -6,7 +6,7 @@
 //!   [`LinesFault`]. The line that includes a file stays, and the lines of the file follow it. Its fault `Unread` names a file
 //!   that has to be read.
 //! - [`asked_by`] and [`name_in`] read a line that includes a file ([`Asked`]).
-//! - [`text_of`]: the text for a bundle, with one line for each line.
+//! - [`text_of`]: the text for a bundle, with one line for each line. [`bytes_with`] counts its bytes before it is made.
 //!
 //! At most [`MOST_OPEN`] files are open at once, and a profile has at most [`MOST_LINES`] lines. The contracts use the words of
 //! `specs/Words` (which lines include a file), `specs/Targets` (which file), `specs/Includes` and `specs/Bundle`.
@@ -14,7 +14,7 @@
 //! # What is proved
 //!
 //! `lines_of` returns exactly the lines that `specs/Includes` gives, or exactly that fault. `text_of` returns exactly the text of
-//! `specs/Bundle`. `Folder::put` changes what is known of one name alone.
+//! `specs/Bundle`, and `bytes_with` the number of its bytes. `Folder::put` changes what is known of one name alone.
 //!
 //! # What is not
 //!
@@ -29,7 +29,7 @@ mod lines;
 mod target;
 mod word;
 
-pub use bundle::text_of;
+pub use bundle::{bytes_with, text_of};
 pub use fault::{LineFault, LinesFault, Why};
 pub use folder::{File, Folder, Found};
 pub use lines::{FileLine, MOST_LINES, MOST_OPEN, lines_of};

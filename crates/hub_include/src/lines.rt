@@ -192,11 +192,22 @@ fn without_mark(bytes: &[u8]) -> &[u8]
 fn fault_at(alloc: Global, line: HeldLine<'_>, why: Why) -> LinesFault
     ensures { (result ≡ OutOfMemory) ⊎ (result ≡ includes.fault_at (of_line line.entry) why) }
 {
-    let number = line.number;
-    match bytes_of(alloc, line.file) {
-        Ok(file) => LinesFault::Line(LineFault { file, number, why }),
-        Err(_) => LinesFault::OutOfMemory,
+    match line_fault(alloc, line, why) {
+        Ok(fault) => LinesFault::Line(fault),
+        Err(AllocError) => LinesFault::OutOfMemory,
     }
+}
+
+/// What is wrong with a line.
+fn line_fault(alloc: Global, line: HeldLine<'_>, why: Why) -> Result<LineFault, AllocError>
+    ensures { IfOk result (λ f. LinesFault.Line f ≡ includes.fault_at (of_line line.entry) why) }
+{
+    Ok(LineFault {
+        file: bytes_of(alloc, line.file)?,
+        number: line.number,
+        text: Items::from_vec(Vec::from_slice(alloc, line.text)?),
+        why,
+    })
 }
 
 /// The bytes of a name.

@@ -98,7 +98,7 @@ unfolding computed
 the_ending_is_added_and_the_mark_is_dropped = refl
 
 no_ending_is_added_for_source : told (codes "source only\n")
-    ≡ Err (fault_at (at (codes "p.prf") 1 []) NoFile)
+    ≡ Err (fault_at (at (codes "p.prf") 1 (codes "source only")) NoFile)
 unfolding computed
 no_ending_is_added_for_source = refl
 
@@ -114,17 +114,19 @@ a_file_that_may_be_missing : told (codes "include? nope\n")
 unfolding computed
 a_file_that_may_be_missing = refl
 
-a_missing_file : told (codes "\ninclude nope\n") ≡ Err (fault_at (at (codes "p.prf") 2 []) NoFile)
+a_missing_file : told (codes "\ninclude nope\n")
+    ≡ Err (fault_at (at (codes "p.prf") 2 (codes "include nope")) NoFile)
 unfolding computed
 a_missing_file = refl
 
 two_names_on_a_line : told (codes "include? nope nope\n")
-    ≡ Err (fault_at (at (codes "p.prf") 1 []) BadLine)
+    ≡ Err (fault_at (at (codes "p.prf") 1 (codes "include? nope nope")) BadLine)
 unfolding computed
 two_names_on_a_line = refl
 
 -- Unison overflows its stack.
-a_cycle : told (codes "include loop\n") ≡ Err (fault_at (at (codes "loop") 1 []) Cycle)
+a_cycle : told (codes "include loop\n")
+    ≡ Err (fault_at (at (codes "loop") 1 (codes "include p.prf")) Cycle)
 unfolding computed
 a_cycle = refl
 

@@ -1,15 +1,16 @@
 -- The profiles of a folder.
-use Rattle.std.specs.Prelude.{◌≡◌, ◌==◌, ◌&&◌, ◌||◌, not, ℕ, Bool, true, false, nat_eq, List, [], ◌∷◌, ◌++◌, drop, map, filter, Ok, Err, bytes_eq, string_bytes, codes, if◌then◌else◌}
+use Rattle.std.specs.Prelude.{◌≡◌, ◌⊎◌, ◌==◌, ◌&&◌, ◌||◌, not, ℕ, Bool, true, false, nat_eq, List, [], ◌∷◌, ◌++◌, drop, map, filter, bytes_eq, string_bytes, codes, if◌then◌else◌}
 use Rattle.std.specs.List.{All, ends_with, list_any}
 use Rattle.std.specs.Result.{is_ok}
 use Rattle.hub_include.specs.Bundle.{text_of}
 use Rattle.hub_include.specs.Files.{Known}
-use Rattle.hub_include.specs.Includes.{Lines, Told, lines_of}
+use Rattle.hub_include.specs.Includes.{Lines, lines_of}
 use Rattle.hub_include.specs.Words.{begins_with}
 use Rattle.hub_folder.specs.Reading.{Lists, Reads, HasListFault, HasNames}
-use Rattle.hub_folder.specs.Taken.{Agrees, IsUntaken}
+use Rattle.hub_folder.specs.Taken.{Agrees, IsUntakenOf, lines_in}
 use Rattle.hub_folder.specs.declared.fault.Untaken.{Untaken}
 use Rattle.hub_folder.specs.declared.fault.Untaken.TheVariants as untaken
+use Rattle.hub_text.specs.Lines.{without_last_cr}
 
 -- What follows the blanks and tabs at the beginning.
 abbrev pub without_blanks : List ℕ → List ℕ
@@ -26,17 +27,17 @@ sets_root line =
     begins_with (codes "root") (without_blanks line)
     && begins_with_equals (without_blanks (drop 4 (without_blanks line)))
 
+-- A line says something: it isn't blank, and doesn't begin with `#` after blanks.
+abbrev pub begins_setting : List ℕ → Bool
+begins_setting [] = false
+begins_setting (b ∷ bs) = not (b == 35)
+
+abbrev pub says_something : List ℕ → Bool
+says_something line = begins_setting (without_blanks (without_last_cr line))
+
 -- The files of profiles.
 abbrev pub profile_files : List (List ℕ) → List (List ℕ)
 profile_files names = filter (λ name. ends_with nat_eq name (codes ".prf")) names
-
--- The lines of a file, with those of what it includes; none, where they can't be told.
-abbrev pub told_lines : Told → Lines
-told_lines (Ok ls) = ls
-told_lines (Err e) = []
-
-abbrev pub lines_in : Known → List ℕ → Lines
-lines_in known name = told_lines (lines_of known name)
 
 -- Lines set a root.
 abbrev pub have_root : Lines → Bool
@@ -85,9 +86,12 @@ pub record AreProfiles (reads : Reads) (lists : Lists) (folder : List ℕ)
   pub told : All (λ name. is_ok (lines_of known name) ≡ true) (profile_files names)
   pub profiles_are : profiles ≡ profiles_of known (place_of folder) (profile_files names)
 
--- Why the profiles of the folder of this path can't be told: it can't be listed, or what is wrong
--- with a file or a line of it.
-abbrev pub IsUntakenFolder : Reads → Lists → List ℕ → Untaken → Type 0
-IsUntakenFolder reads lists folder (untaken.Folder path fault) =
+-- Why the profiles of the folder of this path can't be taken after so many bytes of texts: it can't be
+-- listed, or what is wrong with a file of a profile, after those before it.
+abbrev pub IsUntakenFolder : Reads → Lists → ℕ → List ℕ → Untaken → Type 0
+IsUntakenFolder reads lists taken folder (untaken.Folder path fault) =
     (string_bytes path ≡ folder) × HasListFault lists folder fault
-IsUntakenFolder reads lists folder e = IsUntaken reads (place_of folder) e
+IsUntakenFolder reads lists taken folder e =
+    (e ≡ untaken.OutOfMemory)
+    ⊎ ((names : List (List ℕ)) × HasProfileFiles lists folder names
+    × IsUntakenOf reads (place_of folder) taken names e)

@@ -1,15 +1,18 @@
 -- Files and their lines, as code has them.
-use Rattle.std.specs.Prelude.{◌≡◌, ◌&&◌, ◌++◌, not, ℕ, Bool, List, Ok, filter, map, bytes_eq, string_bytes}
+use Rattle.std.specs.Prelude.{◌≡◌, ◌&&◌, ◌+◌, ◌<◌, ◌++◌, not, ℕ, Bool, List, Ok, filter, length, map, sum_by, bytes_eq, string_bytes}
 use Rattle.std.specs.List.{All, list_any}
 use denote.Ref.{Bor}
 use Rattle.hub_include.specs.Bundle.{text_of}
 use Rattle.hub_include.specs.Files.{Known}
 use Rattle.hub_include.specs.Includes.{Lines, lines_of, of_line}
-use Rattle.hub_folder.specs.Folders.{AreProfiles, have_file, have_root}
-use Rattle.hub_folder.specs.Operands.{AreNamed, IsNamed}
+use Rattle.hub_folder.specs.Folders.{AreProfiles, have_file, have_root, says_something}
+use Rattle.hub_folder.specs.Operands.{AreNamed, IsNamed, bytes_in}
 use Rattle.hub_folder.specs.Reading.{Lists, Reads}
+use Rattle.hub_folder.specs.declared.fault.Untaken.{Untaken}
+use Rattle.hub_folder.specs.declared.fault.Untaken.TheVariants as untaken
 use Rattle.hub_folder.specs.declared.folder.FolderProfile.{FolderProfile}
-use Rattle.hub_folder.specs.declared.folder.Told.{Told}
+use Rattle.hub_folder.specs.declared.shelf.TheConstants.{INCLUDED_BYTES}
+use Rattle.hub_folder.specs.declared.told.Told.{Told}
 
 abbrev pub file_told : Told → List ℕ
 file_told t = t.name.now
@@ -33,6 +36,25 @@ abbrev pub is_profile_told : List Told → Told → Bool
 is_profile_told ts t =
     have_root (lines_told t) && not (list_any (includes_told (file_told t)) ts)
 
+-- A file sets no root and says something else, and no other one of these includes it.
+abbrev pub is_rootless_told : List Told → Told → Bool
+is_rootless_told ts t =
+    (not (have_root (lines_told t)) && list_any (λ l. says_something l.text) (lines_told t))
+    && not (list_any (includes_told (file_told t)) ts)
+
+-- The bytes of the texts of some files.
+abbrev pub bytes_told : Told → ℕ
+bytes_told t = length (text_of (lines_told t))
+
+abbrev pub all_bytes_told : List Told → ℕ
+all_bytes_told ts = sum_by bytes_told ts
+
+-- Memory is out, or this file of a folder is too long after so many bytes of texts.
+abbrev pub IsOverLimit : List ℕ → ℕ → Told → Untaken → Type 0
+IsOverLimit place bytes t (untaken.TooLong path) =
+    (string_bytes path ≡ place ++ file_told t) × (INCLUDED_BYTES < bytes + bytes_told t)
+IsOverLimit place bytes t e = e ≡ untaken.OutOfMemory
+
 -- The profiles among some of these files.
 abbrev pub profile_told : List ℕ → Told → List ℕ × List ℕ
 profile_told place t = (place ++ file_told t, text_of (lines_told t))
@@ -43,6 +65,10 @@ profiles_told place all ts = map (profile_told place) (filter (is_profile_told a
 -- The path and the text of a profile.
 abbrev pub path_and_text : FolderProfile → List ℕ × List ℕ
 path_and_text p = (string_bytes p.path, p.text.items)
+
+-- The bytes of the texts of these profiles.
+abbrev pub profile_bytes : List FolderProfile → ℕ
+profile_bytes ps = bytes_in (map path_and_text ps)
 
 -- The texts that are borrowed.
 abbrev pub texts_in : List (Bor (List ℕ)) → List (List ℕ)

@@ -17,6 +17,8 @@ pub enum Untaken {
     Line(String, LineFault),
     /// For the profile of this path more than `MOST_FILES` files were looked for.
     TooManyFiles(String),
+    /// With the text of the profile of this path the texts have more than `INCLUDED_BYTES` bytes.
+    TooLong(String),
     /// Out of memory.
     OutOfMemory,
 }

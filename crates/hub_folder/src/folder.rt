@@ -1,22 +1,22 @@
 //! The profiles of a folder.
-ghost use Rattle.std.specs.Prelude.{◌≡◌, Ok, bytes_eq, map, string_bytes, IfErr, IfOk, OnOk};
-ghost use Rattle.std.specs.List.{list_any};
+ghost use Rattle.std.specs.Prelude.{◌≡◌, ◌≤◌, ◌+◌, ℕ, Ok, map, string_bytes, IfErr, IfOk, OnOk};
 ghost use Rattle.hub_folder.specs.Told.{HoldProfiles};
 ghost use Rattle.hub_folder.specs.Folders.{HasProfileFiles};
 ghost use Rattle.hub_folder.specs.Folders as folders;
 ghost use Rattle.hub_folder.specs.Folders.{IsUntakenFolder};
-ghost use Rattle.hub_folder.specs.Taken.{Agrees, IsUntaken};
+ghost use Rattle.hub_folder.specs.Taken.{Agrees, IsUntaken, IsUntakenOf};
 ghost use Rattle.hub_folder.specs.Told as told_as;
-ghost use Rattle.hub_folder.specs.Told.{AreTold, file_told, includes_told, lines_told, path_and_text};
+ghost use Rattle.hub_folder.specs.Told.{AreTold, all_bytes_told, file_told, lines_told, path_and_text, profile_bytes};
+ghost use Rattle.hub_folder.specs.declared.shelf.TheConstants.{INCLUDED_BYTES};
 ghost use Rattle.hub_include.specs.Files.{known_of};
 ghost use Rattle.hub_include.specs.Includes as includes;
 
 use crate::fault::Untaken;
 use crate::origins::Origins;
 use crate::reader::{FileReader, Unread};
-use crate::root::sets_root;
-use crate::shelf::Place;
-use hub_include::{FileLine, Folder, lines_of, text_of};
+use crate::shelf::{INCLUDED_BYTES, Place};
+use crate::told::{Told, has_root, includes, is_profile, is_rootless};
+use hub_include::{Folder, lines_of, text_of};
 use std::alloc::{AllocError, Global};
 
 /// A profile of a folder.
@@ -33,26 +33,32 @@ pub struct FolderProfile {
     pub left_out: Vec<String>,
 }
 
-/// A file and its lines, with those of what it includes.
-#[derive(Drop)]
-pub(crate) struct Told<'a> {
-    pub(crate) name: &'a str,
-    pub(crate) lines: Vec<FileLine<&'a str, &'a [u8]>>,
+/// Profiles that were taken.
+#[derive(Debug, Drop)]
+pub struct TakenProfiles {
+    /// The profiles.
+    pub profiles: Vec<FolderProfile>,
+    /// The paths of the files of folders that have the ending of a profile, and are none since they set no root, though they say
+    /// something else and no other one includes them. No contract says of it what it has.
+    pub rootless: Vec<String>,
 }
 
 /// The profiles of the folder of this path, in the order of their names: its files with the ending `.prf`, but those that have no
 /// root, and those that another one includes. (This is this project's choice: Unison takes any name.)
 ///
-/// The lines of each such file must be known, also of one that is no profile.
+/// The lines of each such file must be known, also of one that is no profile. So many bytes of texts were taken before.
 pub fn profiles_in<F: FileReader>(
     alloc: Global,
     reader: &F,
     folder: &str,
-) -> Result<Vec<FolderProfile>, Untaken>
+    taken: usize,
+) -> Result<TakenProfiles, Untaken>
+    requires { taken ≤ INCLUDED_BYTES }
     ensures ok { IfOk result (λ v. HoldProfiles (F.reads reader.now) (F.lists reader.now)
-        folder.now v.items) }
+        folder.now v.profiles.items) }
+    ensures fits { IfOk result (λ v. taken + profile_bytes v.profiles.items ≤ INCLUDED_BYTES) }
     ensures err { IfErr result
-        (IsUntakenFolder (F.reads reader.now) (F.lists reader.now) folder.now) }
+        (IsUntakenFolder (F.reads reader.now) (F.lists reader.now) taken folder.now) }
 {
     let names = profile_names(alloc, reader, folder)?;
     let path = place_of(alloc, folder)?;
@@ -60,11 +66,15 @@ pub fn profiles_in<F: FileReader>(
         alloc,
         reader,
         path: path.as_str(),
+        taken,
     };
     let mut shelf = Folder::new(alloc);
     place.fill_all(&mut shelf, names.as_slice())?;
     let told = place.tell_all(&shelf, names.as_slice())?;
-    Ok(profiles_of(alloc, path.as_str(), told.as_slice())?)
+    Ok(TakenProfiles {
+        profiles: profiles_of(alloc, path.as_str(), told.as_slice())?,
+        rootless: rootless_of(alloc, path.as_str(), told.as_slice())?,
+    })
 }
 
 /// A folder's path with a `/` at its end.
@@ -86,8 +96,8 @@ fn profile_names<F: FileReader>(
 ) -> Result<Vec<String>, Untaken>
     ensures ok { IfOk result (λ v. HasProfileFiles (F.lists reader.now) folder.now
         (map string_bytes v.items)) }
-    ensures err { IfErr result
-        (IsUntakenFolder (F.reads reader.now) (F.lists reader.now) folder.now) }
+    ensures err { (taken : ℕ) → IfErr result
+        (IsUntakenFolder (F.reads reader.now) (F.lists reader.now) taken folder.now) }
 {
     let path = String::from_str(alloc, folder)?;
     match reader.list_folder(alloc, folder) {
@@ -115,7 +125,8 @@ impl<'a, F: FileReader> Place<'a, F> {
     fn fill_all(&self, shelf: &mut Folder, names: &[String]) -> Result<(), Untaken>
         requires { Agrees (F.reads self.now.reader.now) self.now.path.now (known_of shelf.old) }
         ensures ok { OnOk result (Agrees (F.reads self.now.reader.now) self.now.path.now (known_of shelf.new)) }
-        ensures err { IfErr result (IsUntaken (F.reads self.now.reader.now) self.now.path.now) }
+        ensures err { IfErr result (IsUntakenOf (F.reads self.now.reader.now) self.now.path.now
+            self.now.taken (map string_bytes names.now)) }
     {
         for name in names {
             self.fill(shelf, name.as_str())?;
@@ -125,13 +136,19 @@ impl<'a, F: FileReader> Place<'a, F> {
 
     /// The lines of all of these files.
     fn tell_all<'n>(&self, shelf: &'n Folder, names: &'n [String]) -> Result<Vec<Told<'n>>, Untaken>
-        requires { Agrees (F.reads self.now.reader.now) self.now.path.now (known_of shelf.now) }
+        requires known { Agrees (F.reads self.now.reader.now) self.now.path.now (known_of shelf.now) }
+        requires taken { self.now.taken ≤ INCLUDED_BYTES }
         ensures ok { IfOk result (λ v. AreTold (known_of shelf.now) (map string_bytes names.now) v.items) }
-        ensures err { IfErr result (IsUntaken (F.reads self.now.reader.now) self.now.path.now) }
+        ensures fits { IfOk result (λ v. self.now.taken + all_bytes_told v.items ≤ INCLUDED_BYTES) }
+        ensures err { IfErr result (IsUntakenOf (F.reads self.now.reader.now) self.now.path.now
+            self.now.taken (map string_bytes names.now)) }
     {
         let mut told = Vec::new(self.alloc);
+        let mut bytes = self.taken;
         for name in names {
-            told.push(self.tell(shelf, name.as_str())?)?;
+            let one = self.tell(shelf, name.as_str())?;
+            bytes = self.bytes_with(bytes, &one)?;
+            told.push(one)?;
         }
         Ok(told)
     }
@@ -141,7 +158,8 @@ impl<'a, F: FileReader> Place<'a, F> {
         requires { Agrees (F.reads self.now.reader.now) self.now.path.now (known_of shelf.now) }
         ensures ok { IfOk result (λ t. file_told t ≡ name.now) }
         ensures lines { IfOk result (λ t. includes.lines_of (known_of shelf.now) name.now ≡ Ok (lines_told t)) }
-        ensures err { IfErr result (IsUntaken (F.reads self.now.reader.now) self.now.path.now) }
+        ensures err { IfErr result
+            (IsUntaken (F.reads self.now.reader.now) self.now.path.now name.now) }
     {
         match lines_of(self.alloc, shelf, name) {
             Ok(lines) => Ok(Told { name, lines }),
@@ -167,6 +185,18 @@ fn profiles_of(
         }
     }
     Ok(profiles)
+}
+
+/// The paths of those of these files that are none since they set no root.
+fn rootless_of(alloc: Global, path: &str, told: &[Told<'_>]) -> Result<Vec<String>, AllocError> {
+    let mut rootless = Vec::new(alloc);
+    for one in told {
+        if is_rootless(one, told) {
+            let name = one.name;
+            rootless.push(format!(in alloc; "{path}{name}")?)?;
+        }
+    }
+    Ok(rootless)
 }
 
 /// The profile of a file.
@@ -205,39 +235,4 @@ fn left_out_by(
         }
     }
     Ok(left_out)
-}
-
-/// Returns whether a file is a profile, among all of these.
-fn is_profile(one: &Told<'_>, told: &[Told<'_>]) -> bool
-    ensures { result ≡ told_as.is_profile_told told.now one.now }
-{
-    has_root(one.lines.as_slice()) && !is_included(one.name, told)
-}
-
-/// Returns whether lines set a root.
-fn has_root(lines: &[FileLine<&str, &[u8]>]) -> bool
-    ensures { result ≡ list_any (λ l. folders.sets_root l.text.now) lines.now }
-{
-    lines.iter().any(|line| sets_root(line.text))
-}
-
-/// Returns whether one of these files other than that includes it.
-fn is_included(name: &str, told: &[Told<'_>]) -> bool
-    ensures { result ≡ list_any (includes_told name.now) told.now }
-{
-    told.iter().any(|other| includes(other, name))
-}
-
-/// Returns whether a file is another one than that, and includes it.
-fn includes(other: &Told<'_>, name: &str) -> bool
-    ensures { result ≡ includes_told name.now other.now }
-{
-    other.name != name && has_file(other.lines.as_slice(), name)
-}
-
-/// Returns whether some of these lines are from that file.
-fn has_file(lines: &[FileLine<&str, &[u8]>], name: &str) -> bool
-    ensures { result ≡ list_any (λ l. bytes_eq l.file.now name.now) lines.now }
-{
-    lines.iter().any(|line| line.file == name)
 }

@@ -38,10 +38,12 @@ mod profile;
 mod reader;
 mod root;
 mod shelf;
+mod told;
 mod wanted;
 
 pub use fault::Untaken;
-pub use folder::{FolderProfile, profiles_in};
+pub use folder::{FolderProfile, TakenProfiles, profiles_in};
 pub use operands::profiles_named;
 pub use origins::Origins;
 pub use reader::{FileReader, ReadFault, Unread};
+pub use shelf::{INCLUDED_BYTES, MOST_FILES};

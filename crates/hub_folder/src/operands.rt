@@ -1,36 +1,68 @@
 //! The profiles that operands name.
-ghost use Rattle.std.specs.Prelude.{◌≡◌, ◌++◌, IfErr, IfOk, OnOk};
+ghost use Rattle.std.specs.Prelude.{◌≡◌, ◌≤◌, ◌+◌, ◌++◌, IfErr, IfOk, OnOk};
 ghost use Rattle.hub_folder.specs.Operands as operands_as;
 ghost use Rattle.hub_folder.specs.Operands.{IsUnnamed};
-ghost use Rattle.hub_folder.specs.Told.{HoldNamed, HoldOperand, texts_in};
+ghost use Rattle.hub_folder.specs.Told.{HoldNamed, HoldOperand, profile_bytes, texts_in};
+ghost use Rattle.hub_folder.specs.declared.shelf.TheConstants.{INCLUDED_BYTES};
 
 use crate::fault::Untaken;
-use crate::folder::{FolderProfile, profiles_in};
+use crate::folder::{FolderProfile, TakenProfiles, profiles_in};
 use crate::profile::profile_in;
 use crate::reader::FileReader;
+use crate::shelf::INCLUDED_BYTES;
 use std::alloc::{AllocError, Global};
 
 /// The profiles that these operands name, in their order: that of a file whose path ends with `.prf`, or those of a folder.
 ///
-/// The fault is that of the first operand with one.
+/// Their texts have at most `INCLUDED_BYTES` bytes together. The fault is that of the first operand with one.
 pub fn profiles_named<F: FileReader>(
     alloc: Global,
     reader: &F,
     operands: &[&str],
-) -> Result<Vec<FolderProfile>, Untaken>
+) -> Result<TakenProfiles, Untaken>
     ensures ok { IfOk result (λ v. HoldNamed (F.reads reader.now) (F.lists reader.now)
-        operands.now v.items) }
+        operands.now v.profiles.items) }
+    ensures fits { IfOk result (λ v. profile_bytes v.profiles.items ≤ INCLUDED_BYTES) }
     ensures err { IfErr result (IsUnnamed (F.reads reader.now) (F.lists reader.now)
         (texts_in operands.now)) }
 {
-    let mut named = Vec::new(alloc);
+    let mut profiles = Vec::new(alloc);
+    let mut rootless = Vec::new(alloc);
+    let mut taken = 0;
     for operand in operands {
-        match profiles_of(alloc, reader, *operand) {
-            Ok(own) => push_all(&mut named, own)?,
+        match profiles_of(alloc, reader, *operand, taken) {
+            Ok(own) => {
+                taken = bytes_with(taken, own.profiles.as_slice());
+                push_all(&mut profiles, own.profiles)?;
+                push_paths(&mut rootless, own.rootless)?;
+            }
             Err(fault) => return Err(fault),
         }
     }
-    Ok(named)
+    Ok(TakenProfiles { profiles, rootless })
+}
+
+/// The bytes of these texts and of those that were taken before.
+#[tactic(auto, using(crate::proofs::OperandFacts::profile_bytes_cons))]
+fn bytes_with(taken: usize, own: &[FolderProfile]) -> usize
+    requires { taken + profile_bytes own.now ≤ INCLUDED_BYTES }
+    ensures { result ≡ taken + profile_bytes own.now }
+{
+    let mut bytes = taken;
+    let mut rest = own;
+    while let Some((first, others)) = rest.split_first() {
+        bytes += first.text.len();
+        rest = others;
+    }
+    bytes
+}
+
+/// Adds these paths.
+fn push_paths(paths: &mut Vec<String>, others: Vec<String>) -> Result<(), AllocError> {
+    for path in others {
+        paths.push(path)?;
+    }
+    Ok(())
 }
 
 /// Adds these profiles.
@@ -43,22 +75,28 @@ fn push_all(named: &mut Vec<FolderProfile>, own: Vec<FolderProfile>) -> Result<(
     Ok(())
 }
 
-/// The profiles that an operand names.
+/// The profiles that an operand names. So many bytes of texts were taken before.
 fn profiles_of<F: FileReader>(
     alloc: Global,
     reader: &F,
     operand: &str,
-) -> Result<Vec<FolderProfile>, Untaken>
+    taken: usize,
+) -> Result<TakenProfiles, Untaken>
+    requires { taken ≤ INCLUDED_BYTES }
     ensures ok { IfOk result (λ v. HoldOperand (F.reads reader.now) (F.lists reader.now)
-        operand.now v.items) }
+        operand.now v.profiles.items) }
+    ensures fits { IfOk result (λ v. taken + profile_bytes v.profiles.items ≤ INCLUDED_BYTES) }
     ensures err { IfErr result
-        (operands_as.IsFault (F.reads reader.now) (F.lists reader.now) operand.now) }
+        (operands_as.IsFault (F.reads reader.now) (F.lists reader.now) taken operand.now) }
 {
     if !operand.as_bytes().ends_with(b".prf") {
-        return profiles_in(alloc, reader, operand);
+        return profiles_in(alloc, reader, operand, taken);
     }
-    let profile = profile_in(alloc, reader, operand)?;
-    let mut own = Vec::new(alloc);
-    own.push(profile)?;
-    Ok(own)
+    let profile = profile_in(alloc, reader, operand, taken)?;
+    let mut profiles = Vec::new(alloc);
+    profiles.push(profile)?;
+    Ok(TakenProfiles {
+        profiles,
+        rootless: Vec::new(alloc),
+    })
 }

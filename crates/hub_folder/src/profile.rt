@@ -1,6 +1,7 @@
 //! The profile in a file.
-ghost use Rattle.std.specs.Prelude.{◌≡◌, ◌++◌, Err, string_bytes, IfErr, IfOk};
-ghost use Rattle.hub_folder.specs.Taken.{Agrees, IsCut, IsProfile, IsText, IsUntaken, IsUntakenFile, ShowsUntaken};
+ghost use Rattle.std.specs.Prelude.{◌≡◌, ◌≤◌, ◌+◌, ◌++◌, [], length, string_bytes, IfErr, IfOk};
+ghost use Rattle.hub_folder.specs.Taken.{Agrees, IsCut, IsProfile, IsText, IsUntakenAfter, IsUntakenFile, ShowsUntaken};
+ghost use Rattle.hub_folder.specs.declared.shelf.TheConstants.{INCLUDED_BYTES};
 ghost use Rattle.hub_include.specs.Files.{known_of};
 
 use crate::fault::Untaken;
@@ -34,21 +35,25 @@ fn parts_of(alloc: Global, path: &str) -> Result<Cut<'_>, AllocError>
     }
 }
 
-/// The profile in the file of this path, with the lines of the files that it includes.
+/// The profile in the file of this path, with the lines of the files that it includes. So many bytes of texts were taken before.
 pub(crate) fn profile_in<F: FileReader>(
     alloc: Global,
     reader: &F,
     path: &str,
+    taken: usize,
 ) -> Result<FolderProfile, Untaken>
+    requires { taken ≤ INCLUDED_BYTES }
     ensures path { IfOk result (λ p. string_bytes p.path ≡ path.now) }
     ensures text { IfOk result (λ p. IsProfile (F.reads reader.now) path.now p.text.items) }
-    ensures err { IfErr result (IsUntakenFile (F.reads reader.now) path.now) }
+    ensures fits { IfOk result (λ p. taken + length p.text.items ≤ INCLUDED_BYTES) }
+    ensures err { IfErr result (IsUntakenFile (F.reads reader.now) taken path.now) }
 {
     let Cut { place, name } = parts_of(alloc, path)?;
     let place = Place {
         alloc,
         reader,
         path: place.as_str(),
+        taken,
     };
     let mut folder = Folder::new(alloc);
     place.learn_own(&mut folder, name)?;
@@ -59,13 +64,17 @@ pub(crate) fn profile_in<F: FileReader>(
 impl<'a, F: FileReader> Place<'a, F> {
     /// The profile of this name.
     fn profile(&self, folder: &Folder, name: &str) -> Result<FolderProfile, Untaken>
-        requires { Agrees (F.reads self.now.reader.now) self.now.path.now (known_of folder.now) }
+        requires known { Agrees (F.reads self.now.reader.now) self.now.path.now (known_of folder.now) }
+        requires taken { self.now.taken ≤ INCLUDED_BYTES }
         ensures path { IfOk result (λ p. string_bytes p.path ≡ self.now.path.now ++ name.now) }
         ensures text { IfOk result
             (λ p. IsText (F.reads self.now.reader.now) self.now.path.now name.now p.text.items) }
-        ensures err { IfErr result (IsUntaken (F.reads self.now.reader.now) self.now.path.now) }
+        ensures fits { IfOk result (λ p. self.now.taken + length p.text.items ≤ INCLUDED_BYTES) }
+        ensures err { IfErr result (IsUntakenAfter (F.reads self.now.reader.now) self.now.path.now
+            self.now.taken [] name.now) }
     {
         let told = self.tell(folder, name)?;
+        self.bytes_with(self.taken, &told)?;
         Ok(profile_of(self.alloc, self.path, &told, Vec::new(self.alloc))?)
     }
 

@@ -1,6 +1,8 @@
-//! Which lines set a root.
+//! Which lines set a root, and which say something.
 ghost use Rattle.std.specs.Prelude.{◌≡◌};
 ghost use Rattle.hub_folder.specs.Folders as folders;
+
+use hub_text::without_last_cr;
 
 /// Returns whether a line sets a root: it begins with this word and `=`, maybe with blanks before each.
 pub(crate) fn sets_root(line: &[u8]) -> bool
@@ -9,6 +11,23 @@ pub(crate) fn sets_root(line: &[u8]) -> bool
     match without_blanks(line).strip_prefix(b"root") {
         Some(rest) => is_equals(without_blanks(rest)),
         None => false,
+    }
+}
+
+/// Returns whether a line says something: it isn't blank, and doesn't begin with `#` after blanks.
+pub(crate) fn says_something(line: &[u8]) -> bool
+    ensures { result ≡ folders.says_something line.now }
+{
+    begins_setting(without_blanks(without_last_cr(line)))
+}
+
+/// Returns whether a text isn't empty and doesn't begin with `#`.
+fn begins_setting(text: &[u8]) -> bool
+    ensures { result ≡ folders.begins_setting text.now }
+{
+    match text {
+        [first, ..] => *first != b'#',
+        [] => false,
     }
 }
 

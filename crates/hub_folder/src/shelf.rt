@@ -1,5 +1,5 @@
 //! What is known of a folder's files, by reads.
-ghost use Rattle.std.specs.Prelude.{◌≡◌, ◌++◌, string_bytes, IfErr, IfOk, IfSome, OnOk};
+ghost use Rattle.std.specs.Prelude.{◌≡◌, ◌++◌, ℕ, List, string_bytes, IfErr, IfOk, IfSome, OnOk};
 ghost use Rattle.hub_folder.specs.Taken.{Agrees, IsUntaken, read_as};
 ghost use Rattle.hub_include.specs.Files.{known_of};
 
@@ -13,12 +13,18 @@ use std::alloc::{AllocError, Global};
 /// How many files are looked for at most for one profile: among a folder's profiles its own one counts. (This project's choice.)
 pub const MOST_FILES: usize = 1_000;
 
+/// How many bytes the texts of profiles have at most together, with what they include, among them all files of profiles of the folder
+/// that is read. (This project's choice.)
+pub const INCLUDED_BYTES: usize = 16_777_216;
+
 /// A folder whose files a reader tells. Its path ends with `/` or is empty.
 #[derive(Drop)]
 pub(crate) struct Place<'a, F> {
     pub(crate) alloc: Global,
     pub(crate) reader: &'a F,
     pub(crate) path: &'a str,
+    /// The bytes of the texts that were taken before.
+    pub(crate) taken: usize,
 }
 
 impl<'a, F: FileReader> Place<'a, F> {
@@ -27,7 +33,8 @@ impl<'a, F: FileReader> Place<'a, F> {
     pub(crate) fn fill(&self, folder: &mut Folder, name: &str) -> Result<(), Untaken>
         requires { Agrees (F.reads self.now.reader.now) self.now.path.now (known_of folder.old) }
         ensures ok { OnOk result (Agrees (F.reads self.now.reader.now) self.now.path.now (known_of folder.new)) }
-        ensures err { IfErr result (IsUntaken (F.reads self.now.reader.now) self.now.path.now) }
+        ensures err { IfErr result
+            (IsUntaken (F.reads self.now.reader.now) self.now.path.now name.now) }
     {
         let mut waiting = Waiting::new(self.alloc);
         waiting.begin(folder, name)?;
@@ -44,11 +51,12 @@ impl<'a, F: FileReader> Place<'a, F> {
         Err(self.too_many(name))
     }
 
-    /// Reads a file, if it is there.
+    /// Reads a file, if it is there. If it can't be read, no profile of the folder that asks for it can be told.
     fn read(&self, name: &str) -> Result<Option<Items<u8>>, Untaken>
         ensures ok { IfOk result (λ b. IfSome (F.reads self.now.reader.now (self.now.path.now ++ name.now))
             (λ r. r ≡ read_as b)) }
-        ensures err { IfErr result (IsUntaken (F.reads self.now.reader.now) self.now.path.now) }
+        ensures err { (own : List ℕ) → IfErr result
+            (IsUntaken (F.reads self.now.reader.now) self.now.path.now own) }
     {
         let path = self.path_of(name)?;
         match self.reader.read_file(self.alloc, path.as_str()) {
@@ -89,7 +97,8 @@ impl<'a, F: FileReader> Place<'a, F> {
     pub(crate) fn learn_own(&self, folder: &mut Folder, name: &str) -> Result<(), Untaken>
         requires { Agrees (F.reads self.now.reader.now) self.now.path.now (known_of folder.old) }
         ensures ok { OnOk result (Agrees (F.reads self.now.reader.now) self.now.path.now (known_of folder.new)) }
-        ensures err { IfErr result (IsUntaken (F.reads self.now.reader.now) self.now.path.now) }
+        ensures err { IfErr result
+            (IsUntaken (F.reads self.now.reader.now) self.now.path.now name.now) }
     {
         let path = self.path_of(name)?;
         match self.reader.read_file(self.alloc, path.as_str()) {
@@ -105,7 +114,7 @@ impl<'a, F: FileReader> Place<'a, F> {
 
     /// Too many files were looked for.
     pub(crate) fn too_many(&self, name: &str) -> Untaken
-        ensures { IsUntaken (F.reads self.now.reader.now) self.now.path.now result }
+        ensures { IsUntaken (F.reads self.now.reader.now) self.now.path.now name.now result }
     {
         match self.path_of(name) {
             Ok(path) => Untaken::TooManyFiles(path),

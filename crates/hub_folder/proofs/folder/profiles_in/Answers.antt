@@ -1,8 +1,10 @@
-use Rattle.std.proofs.Common.{◌∙◌, map, string_bytes, ap, subst}
+use Rattle.std.proofs.Common.{◌∙◌, map, string_bytes, ap, subst, arith}
 use Rattle.hub_include.specs.Files.{known_of}
+use Rattle.hub_folder.specs.Folders.{IsUntakenFolder}
 use Rattle.hub_folder.specs.Taken.{Agrees}
-use Rattle.hub_folder.specs.Told.{AreTold, profiles_told}
-use Rattle.hub_folder.proofs.ToldFacts.{told-each, told-profiles}
+use Rattle.hub_folder.specs.Operands.{bytes_in}
+use Rattle.hub_folder.specs.Told.{AreTold, all_bytes_told, profiles_told}
+use Rattle.hub_folder.proofs.ToldFacts.{passed_up, picked-bytes, told-each, told-profiles}
 use Rattle.hub_folder.proofs.folder.profiles_in.Goals as goal
 
 pub returns-clause-ok : goal.returns-clause-ok
@@ -24,3 +26,17 @@ returns-clause-ok g c =
           ∙ (λ i. profiles_told (again i) (c.as_slice-3.ensures.value i) (c.as_slice-3.ensures.value i))
           ∙ told-profiles known _ _ told are;
     }
+
+pub returns-clause-fits : goal.returns-clause-fits
+returns-clause-fits g c =
+    let told = c.in_ok-told.told.items in
+    let path = c.as_str-2.result.now in
+    let ts = c.as_slice-3.result.now in
+    omega (arith, c.in_ok-told.ensures.fits, ap bytes_in c.in_ok-profiles_of.ensures, picked-bytes path ts ts, ap all_bytes_told c.as_slice-3.ensures.value)
+
+pub returns-in_err-names-clause-err : goal.returns-in_err-names-clause-err
+returns-in_err-names-clause-err g c =
+    let reads = g.F.FileReader.reads c.args.reader.now in
+    let lists = g.F.FileReader.lists c.args.reader.now in
+    passed_up c.from_residual.result c.in_err-names.field-0.0 (IsUntakenFolder reads lists c.args.taken c.args.folder.now) c.from_residual.ensures.1
+    (c.in_err-names.ensures.err c.args.taken)

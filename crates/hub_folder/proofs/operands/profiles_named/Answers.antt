@@ -1,12 +1,25 @@
-use Rattle.std.proofs.Common.{inr}
-use Rattle.hub_folder.proofs.OperandFacts.{named-more, operand-at}
+use Rattle.std.proofs.Common.{◌∙◌, ◌+◌, ap, arith}
+use Rattle.hub_folder.specs.Told.{profile_bytes}
+use Rattle.hub_folder.proofs.OperandFacts.{named-more, profile_bytes_more, unnamed-at}
 use Rattle.hub_folder.proofs.operands.profiles_named.Goals as goal
 
 pub returns-in-Err-clause-err : goal.returns-in-Err-clause-err
 returns-in-Err-clause-err g c =
-    inr (_, operand-at c.args.operands.now c.loop-operand.operand-index _ c.loop-operand-test.true, c.in-Err.ensures.err)
+    unnamed-at (g.F.FileReader.reads c.args.reader.now) (g.F.FileReader.lists c.args.reader.now) c.args.operands.now c.loop-operand.operand-index _
+    c.loop-operand.profiles.items c.loop-operand.taken c.in-Err.fault c.loop-operand-test.true c.loop-operand.invariant.named c.loop-operand.invariant.bytes
+    c.in-Err.ensures.err
 
 pub loop-operand-preserved : goal.loop-operand-preserved
 loop-operand-preserved g c =
-    named-more (g.F.FileReader.reads c.args.reader.now) (g.F.FileReader.lists c.args.reader.now) c.args.operands.now c.loop-operand.operand-index _
-    c.loop-operand.named.items c.in-Ok.own.items _ c.loop-operand-test.true c.in_ok-push_all-in-Ok.ensures c.loop-operand.invariant c.in-Ok.ensures.ok
+    let own = c.in-Ok.own.profiles.items in
+    let old = c.loop-operand.profiles.items in
+    let pushed = c.in_ok-push_all-in-Ok.ensures in
+    let more = profile_bytes_more old own _ pushed in
+    let sum = c.bytes_with-taken.ensures ∙ ap (λ ps. c.loop-operand.taken + profile_bytes ps) c.as_slice.ensures.value in
+    record {
+      named =
+          named-more (g.F.FileReader.reads c.args.reader.now) (g.F.FileReader.lists c.args.reader.now) c.args.operands.now c.loop-operand.operand-index _
+          old own _ c.loop-operand-test.true pushed c.loop-operand.invariant.named c.in-Ok.ensures.ok;
+      bytes = omega (arith, sum, more, c.loop-operand.invariant.bytes);
+      within = omega (arith, sum, c.in-Ok.ensures.fits);
+    }

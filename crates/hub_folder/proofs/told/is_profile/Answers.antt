@@ -3,7 +3,7 @@ use Rattle.std.specs.List.{list_any}
 use Rattle.hub_folder.specs.Folders.{sets_root}
 use Rattle.hub_folder.specs.Told.{file_told, includes_told}
 use Rattle.hub_folder.proofs.ToldFacts.{root-any}
-use Rattle.hub_folder.proofs.folder.is_profile.Goals as goal
+use Rattle.hub_folder.proofs.told.is_profile.Goals as goal
 
 pub returns-then-has_root : goal.returns-then-has_root
 returns-then-has_root c =

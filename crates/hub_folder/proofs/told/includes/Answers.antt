@@ -3,7 +3,7 @@ use Rattle.std.specs.List.{list_any}
 use Rattle.hub_folder.specs.Folders.{have_file}
 use Rattle.hub_folder.specs.Told.{lines_told}
 use Rattle.hub_folder.proofs.ToldFacts.{file-any}
-use Rattle.hub_folder.proofs.folder.includes.Goals as goal
+use Rattle.hub_folder.proofs.told.includes.Goals as goal
 
 pub returns-then-ne : goal.returns-then-ne
 returns-then-ne c =

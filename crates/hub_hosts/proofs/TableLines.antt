@@ -1,5 +1,5 @@
 -- The paths of a table's rows have no LF, and are absolute or empty.
-use Rattle.std.proofs.Common.{◌≡◌, ◌∙◌, ◌+◌, ◌==◌, ◌&&◌, ◌⊎◌, ⊎_elim, inl, inr, not, length, reverse, ap, ℕ, Bool, true, false, cond, List, [], ◌∷◌, ◌++◌, Option, Some, None, Ok, Err, refl, subst}
+use Rattle.std.proofs.Common.{◌≡◌, ◌∙◌, ◌+◌, ◌==◌, ◌&&◌, ◌⊎◌, ⊎_elim, inl, inr, not, bytes_eq, length, reverse, ap, ℕ, Bool, true, false, cond, List, [], ◌∷◌, ◌++◌, Option, Some, None, Ok, Err, refl, subst}
 use Rattle.std.specs.Prelude.{⊤}
 use Rattle.std.specs.List.{All, find}
 use Rattle.std.specs.Option.{option_map, option_or}
@@ -9,7 +9,7 @@ use Rattle.std.proofs.lemmas.List.Elements.{All-head, All-nil, All-push, All-tai
 use Rattle.hub_text.specs.declared.line.Line.{Line}
 use Rattle.hub_text.specs.Lines.{lines_of, without_last_cr}
 use Rattle.hub_hosts.specs.Remotes.{base_for, path_for}
-use Rattle.hub_hosts.specs.Table.{Row, Rows, add_line, add_lines, add_row, and_then, blanks, has_row, is_for, is_row, name_in, path_in, row_of, row_with, rows_of, said_by, says_nothing, slash, word_of}
+use Rattle.hub_hosts.specs.Table.{Row, Rows, add_line, add_lines, add_row, and_then, blanks, has_row, is_for, is_row, name_in, folding_row, folds_word, path_in, row_at, row_of, row_with, rows_of, said_by, says_nothing, slash, word_of}
 use Rattle.hub_hosts.specs.Words.{begins_with, from_first, host_in, is_one_of, skip, skip_end}
 use Rattle.hub_hosts.specs.declared.fault.HostsFault.TheVariants.{SecondLine}
 use Rattle.hub_hosts.specs.declared.remote.Remote.{Remote}
@@ -72,15 +72,29 @@ either-row : (b : Bool) (r : Row) → (b ≡ true → IsBase r.path) → IfRow (
 either-row true r h = h refl
 either-row false r h = tt
 
-row_of-paths : (said : List ℕ) → has_lf said ≡ false → IfRow (row_of said)
-row_of-paths said h =
+row_at-paths : (folds_names : Bool) (said : List ℕ) → has_lf said ≡ false → IfRow (row_at folds_names said)
+row_at-paths folds_names said h =
     let name = name_in (word_of said) in
     let path = path_in said in
-    either-row (is_row name path) (row_with (word_of said) path) (λ row. (
+    either-row (is_row name path) (row_with folds_names (word_of said) path) (λ row. (
       skip_end-no_lf slash path (skip-no_lf blanks (from_first blanks said) (from_first-no_lf blanks said h)),
       base-path path (and_parts (not (is_one_of name 47)) (begins_with slash path)
           (and_parts (not (length name == 0)) (not (is_one_of name 47) && begins_with slash path) row).1).1,
     ))
+
+or-row : (o p : Option Row) → IfRow o → IfRow p → IfRow (option_or o p)
+or-row None p h k = k
+or-row (Some row) p h k = h
+
+if-row : (b : Bool) (o : Option Row) → IfRow o → IfRow (cond b o None)
+if-row true o h = h
+if-row false o h = tt
+
+row_of-paths : (said : List ℕ) → has_lf said ≡ false → IfRow (row_of said)
+row_of-paths said h =
+    or-row (row_at false said) (folding_row said) (row_at-paths false said h)
+    (if-row (bytes_eq (word_of said) folds_word) (row_at true (path_in said))
+    (row_at-paths true (path_in said) (skip-no_lf blanks (from_first blanks said) (from_first-no_lf blanks said h))))
 
 push-paths : (rows : List Row) (row : Row) → HavePaths rows → IsBase row.path → HavePaths (rows ++ row ∷ [])
 push-paths rows row h k = All-push (λ r. IsBase r.path) rows row h k

@@ -52,6 +52,11 @@ from_root line =
 abbrev pub root_in : List ℕ → List ℕ
 root_in text = skip_end blanks (without_last_cr text)
 
+-- The root that a line `root` sets.
+abbrev pub own_root : List ℕ → Option (List ℕ)
+own_root line =
+    if sets line (codes "root") then Some (root_in (skip blanks (value_of line))) else None
+
 -- A line names a root on another machine.
 abbrev pub is_remote_end : Option (List ℕ) → Bool
 is_remote_end None = false

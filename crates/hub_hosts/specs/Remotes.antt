@@ -45,6 +45,26 @@ abbrev pub base_for : List Row → Remote (List ℕ) → Option (List ℕ)
 base_for rows r =
     option_or (path_for rows r.name r.is_in_home) (path_for rows (host_in r.name) r.is_in_home)
 
+-- Whether the row that counts for a root says that its host folds names.
+abbrev pub folds_for : List Row → List ℕ → Bool → Option Bool
+folds_for rows name in_home = option_map (λ row. row.folds_names) (find (is_for name in_home) rows)
+
+abbrev pub folds_at : List Row → Remote (List ℕ) → Option Bool
+folds_at rows r =
+    option_or (folds_for rows r.name r.is_in_home) (folds_for rows (host_in r.name) r.is_in_home)
+
+abbrev pub is_true_in : Option Bool → Bool
+is_true_in None = false
+is_true_in (Some b) = b
+
+abbrev pub folds_remote : List Row → Option (Remote (List ℕ)) → Bool
+folds_remote rows None = false
+folds_remote rows (Some r) = is_true_in (folds_at rows r)
+
+-- A root is on a host that the table has as one that folds names.
+abbrev pub folds_names : List Row → List ℕ → Bool
+folds_names rows root = folds_remote rows (remote_of root)
+
 -- The path of a name below a folder. The folder's path has no slash at its end, so that of `/` is
 -- empty.
 abbrev pub folder_path : List ℕ → List ℕ

@@ -1,8 +1,9 @@
 -- A table of hosts.
-use Rattle.std.specs.Prelude.{ℕ, ◌+◌, ◌-◌, ◌==◌, ◌&&◌, ◌||◌, not, Bool, nat_eq, List, [], ◌∷◌, ◌++◌, length, take, Option, Some, None, Result, Ok, Err, codes, if◌then◌else◌}
+use Rattle.std.specs.Prelude.{ℕ, ◌+◌, ◌-◌, ◌==◌, ◌&&◌, ◌||◌, not, Bool, true, false, nat_eq, bytes_eq, List, [], ◌∷◌, ◌++◌, length, take, Option, Some, None, Result, Ok, Err, codes, if◌then◌else◌}
 use Rattle.std.specs.List.{ends_with, list_any}
 use Rattle.std.specs.Str.{str_eq_ignore_ascii_case}
 use Rattle.std.specs.Bool.{beq}
+use Rattle.std.specs.Option.{option_or}
 use denote.Ref.{Bor}
 use Rattle.hub_text.specs.declared.line.Line.{Line}
 use Rattle.hub_text.specs.Lines.{lines_of, without_last_cr}
@@ -44,11 +45,12 @@ abbrev pub name_in : List ℕ → List ℕ
 name_in word = if is_for_home word then take (length word - 1) word else word
 
 -- The row of a word and a path. The path loses the slashes at its end.
-abbrev pub row_with : List ℕ → List ℕ → Row
-row_with word path = record {
+abbrev pub row_with : Bool → List ℕ → List ℕ → Row
+row_with folds_names word path = record {
   name = name_in word;
   is_for_home = is_for_home word;
   path = skip_end slash path;
+  folds_names = folds_names;
 }
 
 -- The name isn't empty and has no `/`, and the path is absolute.
@@ -56,10 +58,22 @@ abbrev pub is_row : List ℕ → List ℕ → Bool
 is_row name path =
     not (length name == 0) && (not (is_one_of name 47) && begins_with slash path)
 
-abbrev pub row_of : List ℕ → Option Row
-row_of said =
+abbrev pub row_at : Bool → List ℕ → Option Row
+row_at folds_names said =
     if is_row (name_in (word_of said)) (path_in said)
-    then Some (row_with (word_of said) (path_in said)) else None
+    then Some (row_with folds_names (word_of said) (path_in said)) else None
+
+-- A line whose first word is this one has a host and a path behind it. The host takes names that
+-- differ in case alone for one name.
+abbrev pub folds_word : List ℕ
+folds_word = codes "folds-names"
+
+abbrev pub folding_row : List ℕ → Option Row
+folding_row said = if bytes_eq (word_of said) folds_word then row_at true (path_in said) else None
+
+-- A line that is a host and a path is that, whatever its host.
+abbrev pub row_of : List ℕ → Option Row
+row_of said = option_or (row_at false said) (folding_row said)
 
 -- A row is for roots of this name, relative to a home or not. Names are compared without regard to
 -- the case of ASCII letters.
@@ -101,4 +115,9 @@ rows_of bytes = add_lines 1 [] (lines_of bytes)
 
 -- A borrowed row.
 abbrev pub of_bytes : Host (Bor (List ℕ)) → Row
-of_bytes row = record { name = row.name.now; is_for_home = row.is_for_home; path = row.path.now }
+of_bytes row = record {
+  name = row.name.now;
+  is_for_home = row.is_for_home;
+  path = row.path.now;
+  folds_names = row.folds_names;
+}

@@ -20,6 +20,8 @@ pub(crate) struct Host<T> {
     pub(crate) is_for_home: bool,
     /// The path, without slashes at its end: that of `/` is empty.
     pub(crate) path: T,
+    /// Whether it takes names that differ in case alone for one name.
+    pub(crate) folds_names: bool,
 }
 
 /// The paths that stand for hosts. Contracts see the rows, in the order of their lines.
@@ -40,7 +42,7 @@ impl Model for Hosts {
 impl Hosts {
     /// Reads a table of lines `HOST PATH`. Blank lines and lines that begin with `#` after blanks say nothing. HOST is `HOST` or
     /// `USER@HOST`, and with a `~` at its end it is for roots that are relative to a home. It has no `/`, and PATH is absolute. Blanks
-    /// and one CR at the end of a line go, and slashes at the end of a PATH.
+    /// and one CR at the end of a line go, and slashes at the end of a PATH. Before HOST the word `folds-names` may stand.
     ///
     /// `BadLine` is reported for a line that isn't so, and `SecondLine` for one whose HOST stands above, in capitals or not. Of several
     /// faults the first is reported. Any call may instead report `OutOfMemory`. (All of this is this project's choice.)
@@ -123,6 +125,7 @@ fn copy_of(alloc: Global, row: Host<&[u8]>) -> Result<Host<Items<u8>>, AllocErro
         name: Items::from_vec(Vec::from_slice(alloc, row.name)?),
         is_for_home: row.is_for_home,
         path: Items::from_vec(Vec::from_slice(alloc, row.path)?),
+        folds_names: row.folds_names,
     })
 }
 
@@ -154,12 +157,34 @@ fn says_nothing(said: &[u8]) -> bool
     said.is_empty() || said.starts_with(b"#")
 }
 
-/// The row that a line says, if it says one.
+/// The row that a line says, if it says one: `HOST PATH`, or that behind `folds-names`.
 fn row_of(said: &[u8]) -> Option<Host<&[u8]>>
     ensures { option_map of_bytes result ≡ table.row_of said.now }
 {
+    match row_at(false, said) {
+        Some(row) => Some(row),
+        None => folding_row(said),
+    }
+}
+
+/// The row behind the word for a host that folds names.
+fn folding_row(said: &[u8]) -> Option<Host<&[u8]>>
+    ensures { option_map of_bytes result ≡ table.folding_row said.now }
+{
     let rest = from_first(BLANKS, said);
-    let row = row_with(before(said, rest), skip(BLANKS, rest));
+    if before(said, rest) == b"folds-names".as_slice() {
+        row_at(true, skip(BLANKS, rest))
+    } else {
+        None
+    }
+}
+
+/// The row that a text says, if it is `HOST PATH`.
+fn row_at(folds_names: bool, said: &[u8]) -> Option<Host<&[u8]>>
+    ensures { option_map of_bytes result ≡ table.row_at folds_names said.now }
+{
+    let rest = from_first(BLANKS, said);
+    let row = row_with(folds_names, before(said, rest), skip(BLANKS, rest));
     if is_row(row.name, skip(BLANKS, rest)) {
         Some(row)
     } else {
@@ -175,13 +200,14 @@ fn is_row(name: &[u8], path: &[u8]) -> bool
 }
 
 /// The row of a word and a path.
-fn row_with<'a>(word: &'a [u8], path: &'a [u8]) -> Host<&'a [u8]>
-    ensures { of_bytes result ≡ table.row_with word.now path.now }
+fn row_with<'a>(folds_names: bool, word: &'a [u8], path: &'a [u8]) -> Host<&'a [u8]>
+    ensures { of_bytes result ≡ table.row_with folds_names word.now path.now }
 {
     Host {
         name: name_in(word),
         is_for_home: word.ends_with(b"~"),
         path: skip_end(b"/", path),
+        folds_names,
     }
 }
 

@@ -1,10 +1,13 @@
 //! Paths in place of the roots on other machines that Unison profiles name.
 //!
 //! - [`Hosts::read`]: a table of hosts, each with the path that stands for it, or the first [`HostsFault`].
-//! - [`Hosts::text_for`]: the text of a profile with a path in place of each root of a host that the table has.
+//! - [`Hosts::text_for`]: the text of a profile or of rules with a path in place of each root of a host that the table has.
+//! - [`root_of`]: the value of a line `root`. [`Hosts::path_of`] is the path that stands for it, and [`Hosts::folds_names`] says whether
+//!   its host takes names that differ in case alone for one name.
 //!
 //! A table has lines `HOST PATH`. PATH stands for the `/` of the host, and is absolute. HOST may be `USER@HOST`, which comes first.
-//! A line `HOST~ PATH` is for roots that are relative to a home. So with the lines
+//! A line `HOST~ PATH` is for roots that are relative to a home. The word `folds-names` before HOST marks a machine with Windows or
+//! macOS: `folds-names pc /hosts/pc`. So with the lines
 //!
 //! ```text
 //! build /hosts/build
@@ -38,3 +41,4 @@ mod words;
 
 pub use fault::HostsFault;
 pub use host::Hosts;
+pub use profile::root_of;

@@ -32,7 +32,7 @@ const ARROW_NAMES: [&[u8]; 5] = [
 ];
 
 impl Hosts {
-    /// The text of a profile, with a path in place of each root of a host that the table has. All other bytes stay.
+    /// The text of a profile or of rules, with a path in place of each root of a host that the table has. All other bytes stay.
     ///
     /// A root is the value of `root`, `force`, `prefer`, `nocreation`, `noupdate` and `nodeletion`, and what follows the last `->` of the
     /// value of `nocreationpartial`, `noupdatepartial`, `nodeletionpartial`, `forcepartial` and `preferpartial`. One on another machine
@@ -85,6 +85,17 @@ fn push_with(
     text.extend_from_slice(before(line, end))?;
     path.push_to(text)?;
     text.extend_from_slice(behind(end, root_in(end)))
+}
+
+/// The value of a line `root`, without blanks around it and without a CR at the end of the line.
+pub fn root_of(line: &[u8]) -> Option<&[u8]>
+    ensures { option_map (λ t. t.now) result ≡ profiles.own_root line.now }
+{
+    if sets(line, b"root") {
+        Some(root_in(skip(BLANKS, value_of(line))))
+    } else {
+        None
+    }
 }
 
 /// A line from its root on, if it has one.

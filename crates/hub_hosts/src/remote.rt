@@ -9,7 +9,7 @@ ghost use Rattle.hub_hosts.specs.Remotes.{of_local, of_remote};
 use crate::host::{Host, Hosts, is_for};
 use crate::words::{before, from_first, host_in, skip, skip_end};
 use hub_text::Items;
-use std::alloc::AllocError;
+use std::alloc::{AllocError, Global};
 
 /// A root on another machine.
 #[derive(Clone, Copy, Debug, PartialEq, Eq)]
@@ -84,6 +84,51 @@ impl Hosts {
             base,
             below: remote.below,
         })
+    }
+}
+
+impl Hosts {
+    /// The path that stands for a root, if it is one on another machine and the table has its host.
+    pub fn path_of(&self, alloc: Global, root: &[u8]) -> Result<Option<Vec<u8>>, AllocError>
+        ensures { IfOk result (λ p. option_map (λ v. v.items) p ≡ remotes.path_of self.now root.now) }
+    {
+        let Some(local) = self.local_of(root) else {
+            return Ok(None);
+        };
+        let mut path = Vec::new(alloc);
+        local.push_to(&mut path)?;
+        Ok(Some(path))
+    }
+
+    /// Returns whether a root is on a host that the table has as one that folds names: it takes those that differ in case alone for one
+    /// name. The row that gives the root its path says so.
+    pub fn folds_names(&self, root: &[u8]) -> bool
+        ensures { result ≡ remotes.folds_names self.now root.now }
+    {
+        match remote_of(root) {
+            Some(remote) => folds_at(self.rows(), remote).unwrap_or(false),
+            None => false,
+        }
+    }
+}
+
+/// Whether the row for a root says that its host folds names: that of its name with the user, or that of its host.
+fn folds_at(rows: &[Host<Items<u8>>], remote: Remote<&[u8]>) -> Option<bool>
+    ensures { result ≡ remotes.folds_at rows.now (of_remote remote.entry) }
+{
+    match folds_for(rows, remote.name, remote.is_in_home) {
+        Some(folds) => Some(folds),
+        None => folds_for(rows, host_in(remote.name), remote.is_in_home),
+    }
+}
+
+/// Whether the row for this name says that its host folds names.
+fn folds_for(rows: &[Host<Items<u8>>], name: &[u8], in_home: bool) -> Option<bool>
+    ensures { result ≡ remotes.folds_for rows.now name.now in_home }
+{
+    match row_for(rows, name, in_home) {
+        Some(row) => Some(row.folds_names),
+        None => None,
     }
 }
 

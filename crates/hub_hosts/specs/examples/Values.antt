@@ -2,15 +2,16 @@
 -- and where a comment says so.
 use Rattle.std.specs.Prelude.{◌≡◌, ℕ, false, true, List, [], ◌∷◌, Ok, Err, codes, refl}
 use Rattle.hub_hosts.specs.Profiles.{text_for}
+use Rattle.hub_hosts.specs.Remotes.{folds_names}
 use Rattle.hub_hosts.specs.Table.{Row, rows_of}
 use Rattle.hub_hosts.specs.declared.fault.HostsFault.TheVariants.{BadLine, SecondLine}
 
 -- A table's rows.
 abbrev row : List ℕ → List ℕ → Row
-row name path = record { name = name; is_for_home = false; path = path }
+row name path = record { name = name; is_for_home = false; path = path; folds_names = false }
 
 abbrev home_row : List ℕ → List ℕ → Row
-home_row name path = record { name = name; is_for_home = true; path = path }
+home_row name path = record { name = name; is_for_home = true; path = path; folds_names = false }
 
 a_table : rows_of (codes "# a comment\n\n\t Build \t/hosts/build/ \r\nanna@laptop~ /a b")
     ≡ Ok (row (codes "Build") (codes "/hosts/build")
@@ -39,6 +40,29 @@ a_second_line = refl
 a_home_is_no_second_line : rows_of (codes "build /a\nbuild~ /b")
     ≡ Ok (row (codes "build") (codes "/a") ∷ home_row (codes "build") (codes "/b") ∷ [])
 a_home_is_no_second_line = refl
+
+-- Rows with a word before the host.
+abbrev folding : Row → Row
+folding r = record r { folds_names = true }
+
+a_host_that_folds_names : rows_of (codes "folds-names pc /hosts/pc\nfolds-names\tpc~ /a b\n")
+    ≡ Ok (folding (row (codes "pc") (codes "/hosts/pc"))
+    ∷ folding (home_row (codes "pc") (codes "/a b")) ∷ [])
+a_host_that_folds_names = refl
+
+a_host_of_the_name_of_that_word : rows_of (codes "folds-names /x")
+    ≡ Ok (row (codes "folds-names") (codes "/x") ∷ [])
+a_host_of_the_name_of_that_word = refl
+
+that_word_twice : rows_of (codes "folds-names folds-names /x")
+    ≡ Ok (folding (row (codes "folds-names") (codes "/x")) ∷ [])
+that_word_twice = refl
+
+another_word : rows_of (codes "folds pc /x") ≡ Err (BadLine 1)
+another_word = refl
+
+that_word_without_a_host : rows_of (codes "folds-names") ≡ Err (BadLine 1)
+that_word_without_a_host = refl
 
 -- The rows of these examples.
 abbrev rows : List Row
@@ -127,3 +151,28 @@ the_last_arrow = refl
 a_root_that_is_forced_on_a_path : told (codes "forcepartial = Path a -> ssh://build//srv")
     ≡ codes "forcepartial = Path a -> /hosts/build/srv"
 a_root_that_is_forced_on_a_path = refl
+
+-- The row for a user comes first, also here.
+abbrev folding_rows : List Row
+folding_rows =
+    folding (row (codes "pc") (codes "/pc")) ∷ row (codes "anna@pc") (codes "/anna")
+    ∷ home_row (codes "pc") (codes "/home") ∷ []
+
+a_root_there_folds : folds_names folding_rows (codes "ssh://bob@PC:22//srv") ≡ true
+a_root_there_folds = refl
+
+the_row_for_a_user_says_otherwise : folds_names folding_rows (codes "ssh://anna@pc//srv") ≡ false
+the_row_for_a_user_says_otherwise = refl
+
+the_row_for_a_home_says_otherwise : folds_names folding_rows (codes "ssh://pc/srv") ≡ false
+the_row_for_a_home_says_otherwise = refl
+
+a_host_that_the_table_lacks : folds_names folding_rows (codes "ssh://desk//srv") ≡ false
+a_host_that_the_table_lacks = refl
+
+a_root_here : folds_names folding_rows (codes "/srv") ≡ false
+a_root_here = refl
+
+the_root_of_a_rule : told (codes "root = ssh://build//srv\nnolose = Path a -> ssh://build//x\n")
+    ≡ codes "root = /hosts/build/srv\nnolose = Path a -> ssh://build//x\n"
+the_root_of_a_rule = refl

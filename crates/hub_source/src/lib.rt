@@ -1,7 +1,10 @@
 //! The lines of an input, each with its place, and how a remark shows them.
 //!
 //! - [`Source`]: the first lines of an input. A [`SourceLine`] knows its section, its number there and in the input, and the file
-//!   that it came from with its number there, if there is one ([`SourceFile`]).
+//!   that it came from with its number there, if there is one ([`SourceFile`]). A profile may have a root otherwise than its section
+//!   ([`WrittenRoot`]).
+//! - [`RemoteRoot`]: a root on another machine; [`HostTable`]: the table of hosts that such roots need. [`Proposal`]: a line that is
+//!   proposed for a profile.
 //! - [`say`], [`say_line`] and [`say_placed`] add a line to a remark. [`nearest`] is the known word that was meant.
 //!
 //! ```rust
@@ -18,10 +21,18 @@
 //! Only functions that return a `Result` allocate.
 #![tactic(auto)]
 
+mod file;
 mod near;
+mod proposal;
+mod remote;
 mod said;
 mod source;
 
+pub use file::{LineOrigin, SourceFile, WrittenRoot};
 pub use near::nearest;
-pub use said::{Said, covers, name_of, odd_encoding, say, say_line, say_placed, shown};
-pub use source::{LineOrigin, LinePlace, Source, SourceFile, SourceLine, trimmed};
+pub use proposal::Proposal;
+pub use remote::{HostTable, PathStart, RemoteRoot, is_letter};
+pub use said::{
+    Said, covers, name_of, odd_encoding, say, say_line, say_placed, shown, shown_whole,
+};
+pub use source::{LinePlace, Source, SourceLine, trimmed};

@@ -30,13 +30,16 @@ pub fn say_line(out: &mut String, alloc: Global, line: &SourceLine<'_>) -> Said 
     writeln!(out, "hubsync: {place}: {text}")
 }
 
-/// Adds a line of a profile or of the rules, with its number there and its place.
+/// Adds a line of a profile or of the rules, with its place, and with its number in its section if no file is known.
 pub fn say_placed(out: &mut String, source: &Source<'_>, line: &SourceLine<'_>) -> Said {
     let name = name_of(source, line.section);
     let number = line.number;
     let place = line.place();
     let text = shown(source.alloc(), line.bytes)?;
-    writeln!(out, "hubsync: {name}, line {number} ({place}): {text}")
+    match line.file {
+        Some(_) => writeln!(out, "hubsync: {name} ({place}): {text}"),
+        None => writeln!(out, "hubsync: {name}, line {number} ({place}): {text}"),
+    }
 }
 
 /// What a section is called: its profile's name, or its heading.
@@ -52,13 +55,23 @@ pub fn name_of<'a>(source: &Source<'a>, section: usize) -> &'a str {
 
 /// The start of a line as it is shown: with escapes, if a character of it can't be seen.
 pub fn shown(alloc: Global, bytes: &[u8]) -> Result<String, AllocError> {
+    shown_up_to(alloc, bytes, SHOWN_CHARACTERS)
+}
+
+/// A line as it is shown, to its end.
+pub fn shown_whole(alloc: Global, bytes: &[u8]) -> Result<String, AllocError> {
+    shown_up_to(alloc, bytes, usize::MAX)
+}
+
+/// The start of a line as it is shown, with so many characters at most.
+fn shown_up_to(alloc: Global, bytes: &[u8], most: usize) -> Result<String, AllocError> {
     let Ok(text) = str::from_utf8(without_last_cr(bytes)) else {
         return String::from_str(alloc, "(not UTF-8)");
     };
     if text.is_empty() {
         return String::from_str(alloc, "(blank)");
     }
-    let start: String = text.chars().take(SHOWN_CHARACTERS).collect(alloc)?;
+    let start: String = text.chars().take(most).collect(alloc)?;
     if start.as_str().chars().any(is_hidden) {
         return format!(in alloc; "{start:?}");
     }

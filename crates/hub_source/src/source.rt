@@ -4,6 +4,8 @@ ghost use Rattle.std.specs.List.{list_any};
 ghost use Rattle.hub_source.specs.LineText as line_text;
 ghost use Rattle.hub_source.specs.Places as places;
 
+use crate::file::{SourceFile, WrittenRoot, origin_of};
+use crate::said::covers;
 use hub_text::{BLANKS, Lines, without_last_cr};
 use std::alloc::{AllocError, Global};
 use std::fmt;
@@ -26,24 +28,6 @@ pub struct SourceLine<'a> {
     pub file: Option<&'a str>,
     /// Its number there. The heading is line 0.
     pub file_number: usize,
-}
-
-/// Where a line of a section came from: the path of its file, and its number there, from 1 on.
-#[derive(Clone, Copy)]
-pub struct LineOrigin<'a> {
-    /// The file's path.
-    pub path: &'a str,
-    /// The number.
-    pub number: usize,
-}
-
-/// What a section of an input was made of.
-#[derive(Drop)]
-pub struct SourceFile<'a> {
-    /// The path of the file.
-    pub path: &'a str,
-    /// Where its lines came from, if not all of them are the file's own.
-    pub origins: Vec<LineOrigin<'a>>,
 }
 
 /// Where a line is, as a remark names it: `bundle line 4`, or `docs.prf line 3`.
@@ -155,6 +139,8 @@ pub struct Source<'a> {
     lines: Vec<SourceLine<'a>>,
     /// Where each heading stands among the lines.
     headings: Vec<usize>,
+    /// The roots of the sections that were made of files.
+    roots: Vec<&'a [WrittenRoot<'a>]>,
     is_whole: bool,
 }
 
@@ -171,8 +157,12 @@ impl<'a> Source<'a> {
             alloc,
             lines: Vec::new(alloc),
             headings: Vec::new(alloc),
+            roots: Vec::new(alloc),
             is_whole,
         };
+        for file in files {
+            source.roots.push(file.roots)?;
+        }
         for line in Lines::new(bytes) {
             if source.lines.len() >= LINES || (!is_whole && !line.is_ended) {
                 source.is_whole = false;
@@ -273,6 +263,26 @@ impl<'a> Source<'a> {
         None
     }
 
+    /// The roots of a section and how its profile has them, if the section was made of a file.
+    pub fn written_roots(&self, section: usize) -> Option<&'a [WrittenRoot<'a>]> {
+        self.roots.get(section.checked_sub(1)?).copied()
+    }
+
+    /// A root of a section, as Unison knows it: the value of the line for it, in the profile that the section was made of.
+    ///
+    /// It is nothing if no line of the section sets this root. A `/` at the end of a root doesn't count. (That Unison compares a root in
+    /// the value of a preference with the text of the root's line was observed with Unison 2.52.1.)
+    pub fn root_written(&self, section: usize, root: &str) -> Option<&'a str> {
+        for line in self.section_lines(section) {
+            if let Some(value) = line.value_of("root") {
+                if is_one_root(value, root) {
+                    return Some(written_as(self.written_roots(section), value));
+                }
+            }
+        }
+        None
+    }
+
     /// The headings of the profiles.
     pub fn profiles(&self) -> Result<Vec<SourceLine<'a>>, AllocError> {
         let mut found = Vec::new(self.alloc);
@@ -285,17 +295,18 @@ impl<'a> Source<'a> {
     }
 }
 
-/// The path of the file that a line of a section came from, if the section was made of one, and the line's number there.
-fn origin_of<'a>(
-    files: &[SourceFile<'a>],
-    section: usize,
-    number: usize,
-) -> (Option<&'a str>, usize) {
-    let Some(file) = section.checked_sub(1).and_then(|at| files.get(at)) else {
-        return (None, number);
-    };
-    match number.checked_sub(1).and_then(|at| file.origins.get(at)) {
-        Some(origin) => (Some(origin.path), origin.number),
-        None => (Some(file.path), number),
+/// Returns whether two texts are one root.
+fn is_one_root(one: &str, other: &str) -> bool {
+    covers(one, other) && covers(other, one)
+}
+
+/// How a profile with these roots has the root of this text.
+fn written_as<'a>(roots: Option<&'a [WrittenRoot<'a>]>, root: &'a str) -> &'a str {
+    for other in roots.unwrap_or(&[]) {
+        if other.path == root.as_bytes() {
+            let written = utf8_or_empty(other.written);
+            return if written.is_empty() { root } else { written };
+        }
     }
+    root
 }

@@ -447,7 +447,11 @@ fn source_files<'a>(alloc: Global, held: &'a [Held]) -> Result<Vec<SourceFile<'a
             Some(origins) => line_origins(alloc, origins)?,
             None => Vec::new(alloc),
         };
-        files.push(SourceFile { path, origins })?;
+        files.push(SourceFile {
+            path,
+            origins,
+            roots: &[],
+        })?;
     }
     Ok(files)
 }

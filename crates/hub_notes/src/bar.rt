@@ -6,10 +6,10 @@ use crate::dotted::is_covered;
 use crate::line::is_starred;
 use crate::missing::Missing;
 use crate::query::is_same_root;
-use crate::setting::Setting;
+use crate::setting::{Setting, written_root};
 use crate::sign::{Choices, Pattern, Sign, front_of, names_of, signs_of_path};
 use hub_glob::Kind;
-use hub_source::trimmed;
+use hub_source::{Source, trimmed};
 use std::alloc::{AllocError, Global};
 
 /// A bar on paths.
@@ -38,15 +38,19 @@ pub(crate) fn read_bar<'a>(name: &'a str, value: &'a str) -> Option<PathBar<'a>>
 }
 
 /// What is said of a bar whose arrow Unison doesn't see.
-pub(crate) fn arrow_words(alloc: Global, line: &Setting<'_>) -> Result<Option<String>, AllocError> {
+pub(crate) fn arrow_words(
+    source: &Source<'_>,
+    line: &Setting<'_>,
+) -> Result<Option<String>, AllocError> {
     let Some(bar) = line.bar else {
         return Ok(None);
     };
     if bar.has_blanks {
         return Ok(None);
     }
-    let (name, pattern, root) = (bar.name, bar.pattern, bar.root);
-    let words = format!(in alloc;
+    let (name, pattern) = (bar.name, bar.pattern);
+    let root = written_root(source, line, bar.root);
+    let words = format!(in source.alloc();
         "Unison bars nothing without blanks around the arrow: write {name} = {pattern} -> {root}"
     )?;
     Ok(Some(words))
@@ -112,10 +116,11 @@ pub(crate) fn count_names(path: &str) -> usize {
 
 /// What is said of a bar below a folder that isn't barred.
 pub(crate) fn bar_words(
-    alloc: Global,
+    source: &Source<'_>,
     lines: &[Setting<'_>],
     line: &Setting<'_>,
 ) -> Result<Option<String>, AllocError> {
+    let alloc = source.alloc();
     let Some(bar) = line.bar else {
         return Ok(None);
     };
@@ -126,18 +131,21 @@ pub(crate) fn bar_words(
         return Ok(None);
     }
     match missing_bar(alloc, lines, bar, own)? {
-        Some(missing) => Ok(Some(words_on_missing(alloc, bar, missing)?)),
+        Some(missing) => {
+            let root = written_root(source, line, bar.root);
+            Ok(Some(words_on_missing(alloc, bar.name, root, missing)?))
+        }
         None => Ok(None),
     }
 }
 
-/// The words that say which bar is missing.
+/// The words that say which bar of that name is missing at a root.
 fn words_on_missing(
     alloc: Global,
-    bar: PathBar<'_>,
+    name: &str,
+    root: &str,
     missing: Missing,
 ) -> Result<String, AllocError> {
-    let (name, root) = (bar.name, bar.root);
     let remedy = match missing {
         Missing::Line(pattern) => {
             format!(in alloc; "add, for Unison too: {name} = {pattern} -> {root}")?

@@ -3,10 +3,10 @@
 use crate::bar::{PathBar, is_kept_whole, like_bars};
 use crate::dotted::missing_dots;
 use crate::missing::Missing;
-use crate::setting::Setting;
+use crate::setting::{Setting, written_root};
 use crate::sign::{Choices, Sign};
 use hub_path::RelPath;
-use hub_source::covers;
+use hub_source::{Source, covers};
 use std::alloc::{AllocError, Global};
 
 /// What is said of a path whose last name is `*`: to Unison it is all children of the folder above, of which it tests each, and
@@ -99,7 +99,7 @@ fn has_whole(pattern: &Choices) -> Result<bool, AllocError> {
 
 /// What is said of a pattern that matches a dot at the start of a name, where Unison's doesn't.
 pub(crate) fn dot_words(
-    alloc: Global,
+    source: &Source<'_>,
     lines: &[Setting<'_>],
     line: &Setting<'_>,
 ) -> Result<Option<String>, AllocError> {
@@ -107,17 +107,21 @@ pub(crate) fn dot_words(
         return Ok(None);
     };
     match line.bar {
-        Some(bar) => words_on_bar(alloc, lines, bar, own),
-        None if line.name == "ignore" => ignore_words(alloc, lines, own),
+        Some(bar) => {
+            let root = written_root(source, line, bar.root);
+            words_on_bar(source.alloc(), lines, bar, root, own)
+        }
+        None if line.name == "ignore" => ignore_words(source.alloc(), lines, own),
         None => Ok(None),
     }
 }
 
-/// The same of a bar on paths.
+/// The same of a bar on paths, whose root the profile writes so.
 fn words_on_bar(
     alloc: Global,
     lines: &[Setting<'_>],
     bar: PathBar<'_>,
+    root: &str,
     own: &Choices,
 ) -> Result<Option<String>, AllocError> {
     if is_kept_whole(lines, bar) {
@@ -127,7 +131,7 @@ fn words_on_bar(
     let Some(missing) = missing_dots(alloc, own, others.as_slice())? else {
         return Ok(None);
     };
-    let (name, root) = (bar.name, bar.root);
+    let name = bar.name;
     let remedy = match missing {
         Missing::Line(pattern) => {
             format!(in alloc; "add, for Unison too: {name} = {pattern} -> {root}")?

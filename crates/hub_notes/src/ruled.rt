@@ -2,47 +2,50 @@
 
 use crate::bar::{count_names, is_below, kept_values, sets_root};
 use crate::query::is_same_root;
-use crate::setting::{Rule, Setting};
+use crate::setting::{Rule, Setting, written_root};
 use crate::sign::{Choices, Pattern, signs_of_path};
 use hub_glob::Kind;
 use hub_path::RelPath;
-use hub_source::covers;
+use hub_source::{Source, covers};
 use std::alloc::{AllocError, Global};
 
 /// What is said of a bar on creation: with it alone, a file may become a folder, and what is in the folder is created.
 pub(crate) fn creation_words(
-    alloc: Global,
+    source: &Source<'_>,
     rules: &[Rule<'_>],
     lines: &[Setting<'_>],
     line: &Setting<'_>,
 ) -> Result<Option<String>, AllocError> {
-    let Some((root, remedy)) = beside_creation(alloc, line)? else {
+    let Some(root) = creation_root(line) else {
         return Ok(None);
     };
-    if is_unchanged(lines, root) || has_line(lines, remedy.as_str()) || !forbids_new(rules, root) {
+    if is_unchanged(lines, root) || bars_updates(lines, line) || !forbids_new(rules, root) {
         return Ok(None);
     }
-    let words = format!(in alloc;
+    let remedy = update_bar(source, line, root)?;
+    let words = format!(in source.alloc();
         "Unison creates below a file that becomes a folder, whatever nonew says: add, for Unison too: {remedy}"
     )?;
     Ok(Some(words))
 }
 
-/// The root of a bar on creation, and the line that bars updates there as well.
-fn beside_creation<'a>(
-    alloc: Global,
-    line: &Setting<'a>,
-) -> Result<Option<(&'a str, String)>, AllocError> {
-    if let Some(root) = line.value_of("nocreation") {
-        return Ok(Some((root, format!(in alloc; "noupdate = {root}")?)));
-    }
+/// The root of a bar on creation.
+fn creation_root<'a>(line: &Setting<'a>) -> Option<&'a str> {
     match line.bar {
-        Some(bar) if bar.name == "nocreationpartial" => {
-            let (pattern, root) = (bar.pattern, bar.root);
-            let remedy = format!(in alloc; "noupdatepartial = {pattern} -> {root}")?;
-            Ok(Some((root, remedy)))
+        Some(bar) if bar.name == "nocreationpartial" => Some(bar.root),
+        _ => line.value_of("nocreation"),
+    }
+}
+
+/// The line that bars updates where a line bars creation, at this root.
+fn update_bar(source: &Source<'_>, line: &Setting<'_>, root: &str) -> Result<String, AllocError> {
+    let root = written_root(source, line, root);
+    match line.bar {
+        Some(bar) => {
+            let pattern = bar.pattern;
+            format!(in source.alloc(); "noupdatepartial = {pattern} -> {root}")
         }
-        _ => Ok(None),
+        None => format!(in source.alloc(); "noupdate = {root}"),
     }
 }
 
@@ -51,12 +54,16 @@ fn is_unchanged(lines: &[Setting<'_>], root: &str) -> bool {
     sets_root(lines, "force", root) || sets_root(lines, "noupdate", root)
 }
 
-/// Returns whether a profile has a line of this text, `NAME = VALUE`.
-fn has_line(lines: &[Setting<'_>], text: &str) -> bool {
-    let Some((name, value)) = text.split_once(" = ") else {
+/// Returns whether a profile bars updates on the same paths as a line does creation.
+fn bars_updates(lines: &[Setting<'_>], line: &Setting<'_>) -> bool {
+    let Some(bar) = line.bar else {
         return false;
     };
-    lines.iter().any(|line| line.value_of(name) == Some(value))
+    lines.iter().any(|other| other.bar.is_some_and(|own| {
+        own.name == "noupdatepartial"
+            && own.pattern == bar.pattern
+            && is_same_root(own.root, bar.root)
+    }))
 }
 
 /// Returns whether a rule for a root forbids what is new.
@@ -111,7 +118,7 @@ fn is_parent_ruled(rules: &[Rule<'_>], root: &str, path: &RelPath) -> bool {
 
 /// What is said of an ignored path: Unison deletes a folder with all that is ignored in it.
 pub(crate) fn ignored_words(
-    alloc: Global,
+    source: &Source<'_>,
     rules: &[Rule<'_>],
     lines: &[Setting<'_>],
     line: &Setting<'_>,
@@ -125,9 +132,10 @@ pub(crate) fn ignored_words(
     for own in lines {
         if let Some(root) = own.value_of("root") {
             if may_delete(lines, root) {
-                if let Some(rule) = rule_on_ignored(alloc, rules, lines, root, pattern)? {
+                if let Some(rule) = rule_on_ignored(source.alloc(), rules, lines, root, pattern)? {
                     let place = rule.setting.line.place();
-                    let words = format!(in alloc;
+                    let root = written_root(source, own, root);
+                    let words = format!(in source.alloc();
                         "Unison deletes a folder with what is ignored in it, whatever the rule of {place} says: add, for Unison too: nodeletion = {root}"
                     )?;
                     return Ok(Some(words));

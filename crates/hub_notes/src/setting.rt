@@ -30,6 +30,11 @@ impl<'a> Setting<'a> {
     }
 }
 
+/// A root that a line of a profile names, as the profile's line for that root has it: so Unison knows it.
+pub(crate) fn written_root<'r>(source: &Source<'r>, line: &Setting<'_>, root: &'r str) -> &'r str {
+    source.root_written(line.line.section, root).unwrap_or(root)
+}
+
 /// A rule, with the root that it is for.
 #[derive(Drop)]
 pub(crate) struct Rule<'a> {

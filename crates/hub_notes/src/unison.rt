@@ -6,7 +6,7 @@ use crate::ruled::{creation_words, ignored_words, parent_words};
 use crate::said::Notes;
 use crate::setting::{Rule, Setting, rules_of, settings_of};
 use hub_source::{Said, Source, SourceLine};
-use std::alloc::{AllocError, Global};
+use std::alloc::AllocError;
 
 /// What the lines of some profiles and the rules set, each read once.
 #[derive(Drop)]
@@ -136,7 +136,7 @@ fn say_in_profile(
 ) -> Result<bool, AllocError> {
     let mut is_said = was_said;
     for line in lines {
-        if let Some(words) = words_on(source.alloc(), rules, lines, line, difference)? {
+        if let Some(words) = words_on(source, rules, lines, line, difference)? {
             if is_said {
                 out.hide();
             } else {
@@ -150,21 +150,22 @@ fn say_in_profile(
 
 /// What is to be said of a line that Unison reads so.
 fn words_on(
-    alloc: Global,
+    source: &Source<'_>,
     rules: &[Rule<'_>],
     lines: &[Setting<'_>],
     line: &Setting<'_>,
     difference: Difference,
 ) -> Result<Option<String>, AllocError> {
+    let alloc = source.alloc();
     match difference {
-        Difference::Arrow => arrow_words(alloc, line),
+        Difference::Arrow => arrow_words(source, line),
         Difference::Star => star_words(alloc, lines, line),
-        Difference::Bar => bar_words(alloc, lines, line),
-        Difference::Dot => dot_words(alloc, lines, line),
+        Difference::Bar => bar_words(source, lines, line),
+        Difference::Dot => dot_words(source, lines, line),
         Difference::Byte => byte_words(alloc, line),
         Difference::Whole => whole_words(alloc, line),
-        Difference::Creation => creation_words(alloc, rules, lines, line),
-        Difference::Ignored => ignored_words(alloc, rules, lines, line),
+        Difference::Creation => creation_words(source, rules, lines, line),
+        Difference::Ignored => ignored_words(source, rules, lines, line),
         Difference::Parent => parent_words(alloc, rules, lines, line),
         Difference::Log => log_words(alloc, lines, line),
     }

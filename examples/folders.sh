@@ -77,30 +77,30 @@ try_forms() {
     ask 2 check --unison forms <<LINES
 fault: profile docs line 4: UnknownPreference follow
 hubsync: forms/common line 1: follow = Path common
-hubsync: docs/UNISON.md lists them under Which preferences count
+hubsync: hubsync has no answer for a profile with this line: let it run by itself, when no other profile runs, also by hand
 hubsync: forms/part.prf line 1: follow = Path part.prf
-hubsync: docs/UNISON.md lists them under Which preferences count
+hubsync: hubsync has no answer for a profile with this line: let it run by itself, when no other profile runs, also by hand
 hubsync: forms/common.prf line 1: follow = Path common.prf
-hubsync: docs/UNISON.md lists them under Which preferences count
+hubsync: hubsync has no answer for a profile with this line: let it run by itself, when no other profile runs, also by hand
 hubsync: forms/with blank.prf line 1: follow = Path blank
-hubsync: docs/UNISON.md lists them under Which preferences count
+hubsync: hubsync has no answer for a profile with this line: let it run by itself, when no other profile runs, also by hand
 hubsync: forms/below/file line 1: follow = Path below
-hubsync: docs/UNISON.md lists them under Which preferences count
+hubsync: hubsync has no answer for a profile with this line: let it run by itself, when no other profile runs, also by hand
 hubsync: forms/docs.prf line 12: "include\\tnone"
 hubsync: write that file's lines in its place; in a .prf file, with --unison, one space follows include
 LINES
     ask 2 check --unison forms/docs.prf <<LINES
 fault: profile docs line 4: UnknownPreference follow
 hubsync: forms/common line 1: follow = Path common
-hubsync: docs/UNISON.md lists them under Which preferences count
+hubsync: hubsync has no answer for a profile with this line: let it run by itself, when no other profile runs, also by hand
 hubsync: forms/part.prf line 1: follow = Path part.prf
-hubsync: docs/UNISON.md lists them under Which preferences count
+hubsync: hubsync has no answer for a profile with this line: let it run by itself, when no other profile runs, also by hand
 hubsync: forms/common.prf line 1: follow = Path common.prf
-hubsync: docs/UNISON.md lists them under Which preferences count
+hubsync: hubsync has no answer for a profile with this line: let it run by itself, when no other profile runs, also by hand
 hubsync: forms/with blank.prf line 1: follow = Path blank
-hubsync: docs/UNISON.md lists them under Which preferences count
+hubsync: hubsync has no answer for a profile with this line: let it run by itself, when no other profile runs, also by hand
 hubsync: forms/below/file line 1: follow = Path below
-hubsync: docs/UNISON.md lists them under Which preferences count
+hubsync: hubsync has no answer for a profile with this line: let it run by itself, when no other profile runs, also by hand
 hubsync: forms/docs.prf line 12: "include\\tnone"
 hubsync: write that file's lines in its place; in a .prf file, with --unison, one space follows include
 LINES
@@ -109,15 +109,15 @@ LINES
         ask 2 rounds --unison docs.prf <<LINES
 fault: profile docs line 4: UnknownPreference follow
 hubsync: common line 1: follow = Path common
-hubsync: docs/UNISON.md lists them under Which preferences count
+hubsync: hubsync has no answer for a profile with this line: let it run by itself, when no other profile runs, also by hand
 hubsync: part.prf line 1: follow = Path part.prf
-hubsync: docs/UNISON.md lists them under Which preferences count
+hubsync: hubsync has no answer for a profile with this line: let it run by itself, when no other profile runs, also by hand
 hubsync: common.prf line 1: follow = Path common.prf
-hubsync: docs/UNISON.md lists them under Which preferences count
+hubsync: hubsync has no answer for a profile with this line: let it run by itself, when no other profile runs, also by hand
 hubsync: with blank.prf line 1: follow = Path blank
-hubsync: docs/UNISON.md lists them under Which preferences count
+hubsync: hubsync has no answer for a profile with this line: let it run by itself, when no other profile runs, also by hand
 hubsync: below/file line 1: follow = Path below
-hubsync: docs/UNISON.md lists them under Which preferences count
+hubsync: hubsync has no answer for a profile with this line: let it run by itself, when no other profile runs, also by hand
 hubsync: docs.prf line 12: "include\\tnone"
 hubsync: write that file's lines in its place; in a .prf file, with --unison, one space follows include
 LINES
@@ -150,12 +150,13 @@ LINES
     put_profile parts/z.prf 'path = docs/old'
     ask 1 check --unison parts/ <<LINES
 overlap: docs writes docs at /srv/hub, z reaches docs/old
-hubsync: docs, line 5 (parts/docs.prf line 2): path = docs
-hubsync: z, line 3 (parts/z.prf line 3): path = docs/old
+hubsync: docs (parts/docs.prf line 2): path = docs
+hubsync: z (parts/z.prf line 3): path = docs/old
 $lines
 hubsync: docs: ignore = Path docs/old
 hubsync: docs: noupdatepartial = Path docs -> /srv/hub
 hubsync: docs: nocreationpartial = Path docs -> /srv/hub
+hubsync: docs then no longer synchronizes docs/old
 $wider
 hubsync: without --unison: overlap: docs writes docs at /srv/hub, z reaches docs/old
 hubsync: note: parts/base.prf is no profile here, since parts/docs.prf includes it: name both files to ask about both
@@ -170,8 +171,8 @@ overlap: photos writes photos at /srv/desk, base reaches photos
 overlap: photos writes photos at archive of /srv/hub and /srv/desk, base reaches photos
 same archive: base and photos have the roots /srv/hub and /srv/desk
 hubsync: base has no line path, so it has all of its roots
-hubsync: photos, line 1 (parts/photos.prf line 1): path = photos
-hubsync: run one after the other, or give one other paths, an ignore or a bar
+hubsync: photos (parts/photos.prf line 1): path = photos
+hubsync: run one after the other: Unison has one archive for both, and two runs at once bring deleted files back
 $wider
 hubsync: without --unison: overlap: base writes photos at /srv/hub, photos reaches photos
 LINES
@@ -310,23 +311,25 @@ LINES
     ask 2 check --unison 'texts/my docs.prf' <<LINES
 fault: profile my docs line 7: UnknownPreference %x
 hubsync: texts/my docs.prf line 5:  %x = rules
-hubsync: docs/UNISON.md lists them under Which preferences count
+hubsync: Unison 2.52 has no preference of this name that hubsync knows
 LINES
     printf '\xef\xbb\xbfroot = /srv/hub\r\nroot = /srv/desk\r\ninclude part\r\npath = a\r\npath = b' >'texts/my docs.prf'
     put_profile texts/other.prf 'path = b/c'
     ask 1 check --unison texts <<LINES
 overlap: other writes b/c at /srv/hub, my docs reaches b/c
-hubsync: my docs, line 7 (texts/my docs.prf line 5): path = b
-hubsync: other, line 3 (texts/other.prf line 3): path = b/c
-$lines
+hubsync: my docs (texts/my docs.prf line 5): path = b
+hubsync: other (texts/other.prf line 3): path = b/c
+hubsync: let my docs run by itself, when no other profile runs
+hubsync: or add these lines, which hold for Unison too:
 hubsync: my docs: ignore = Path b/c
+hubsync: my docs then no longer synchronizes b/c
 $wider
 hubsync: without --unison: overlap: other writes b/c at /srv/hub, my docs reaches b/c
 LINES
     printf 'root = /srv/hub\nroot = /srv/x\npath = \xe9\n' >texts/latin.prf
     ask 2 check --unison texts <<LINES
 fault: profile latin line 0: NotUtf8
-hubsync: line 3 (texts/latin.prf line 3) is not UTF-8 at byte 8
+hubsync: texts/latin.prf line 3 is not UTF-8 at byte 8
 hubsync: save the file as UTF-8
 LINES
 }
@@ -383,16 +386,16 @@ LINES
 fault: profile refused line 3: UnknownPreference follow
 $(for number in {3..14}; do
         echo "hubsync: verbose/refused.prf line $number: $(sed -n "${number}p" verbose/refused.prf)"
-        echo 'hubsync: docs/UNISON.md lists them under Which preferences count'
+        echo 'hubsync: hubsync has no answer for a profile with this line: let it run by itself, when no other profile runs, also by hand'
     done)
 LINES
     ask 2 rounds --unison verbose/refused.prf <<LINES
 fault: profile refused line 3: UnknownPreference follow
 $(for number in {3..13}; do
         echo "hubsync: verbose/refused.prf line $number: $(sed -n "${number}p" verbose/refused.prf)"
-        echo 'hubsync: docs/UNISON.md lists them under Which preferences count'
+        echo 'hubsync: hubsync has no answer for a profile with this line: let it run by itself, when no other profile runs, also by hand'
     done)
-hubsync: more lines that are refused: 1
+hubsync: more lines that are refused: 1: --verbose lists them
 LINES
 }
 
@@ -437,23 +440,31 @@ LINES
     ask 2 check --unison remote/unison <<LINES
 fault: profile desk line 2: BadPath RemoteRoot
 hubsync: remote/unison/desk.prf line 2: root = ssh://anna@Desk:22//srv/
-hubsync: write /hosts/Desk/srv in its place, in all profiles alike
+hubsync: it is on another machine: the table below has it
 hubsync: remote/unison/desk.prf line 3: force = ssh://anna@Desk:22//srv/
-hubsync: write /hosts/Desk/srv in its place, in all profiles alike
+hubsync: it is on another machine: the table below has it
 hubsync: remote/unison/desk.prf line 4: noupdatepartial = Path a -> ssh://anna@desk//srv
-hubsync: write /hosts/desk/srv in its place, in all profiles alike
+hubsync: it is on another machine: the table below has it
 hubsync: remote/unison/home line 2: root = ssh://bob@laptop/docs
-hubsync: write /hosts/laptop/home/bob/docs if the home there is /home/bob, in all profiles alike
+hubsync: it is on another machine: the table below has it
 hubsync: remote/unison/other.prf line 2: root = socket://desk:4000//data
-hubsync: write /hosts/desk/data in its place, in all profiles alike
+hubsync: it is on another machine: the table below has it
 hubsync: remote/unison/top.prf line 2: root = ssh://laptop//top
-hubsync: write /hosts/laptop/top in its place, in all profiles alike
+hubsync: it is on another machine: the table below has it
+hubsync: add --hosts FILE, where FILE has these lines:
+hubsync:     bob@laptop~ /hosts/laptop/home/bob
+hubsync:     desk /hosts/desk
+hubsync:     laptop /hosts/laptop
+hubsync: behind HOST~ stands the home there: write where it is, if it is elsewhere
 LINES
     put remote/unison/lacks.prf 'root = /srv/hub' 'root = ssh://desk/docs' 'path = lacks'
     ask 2 rounds --unison remote/unison --hosts remote/table <<LINES
 fault: profile lacks line 2: BadPath RemoteRoot
 hubsync: remote/unison/lacks.prf line 2: root = ssh://desk/docs
-hubsync: write /hosts/desk/home/NAME/docs if the home there is /home/NAME, in all profiles alike
+hubsync: it is on another machine: the table below has it
+hubsync: add these lines to the table of --hosts:
+hubsync:     desk~ /hosts/desk/home/NAME
+hubsync: behind HOST~ stands the home there: write where it is, if it is elsewhere
 LINES
     put remote/bad '# hosts' '' 'desk hosts/desk'
     ask 2 check --unison remote/unison --hosts remote/bad <<LINES
@@ -493,8 +504,8 @@ $assumed
 LINES
     ask 1 check --unison operands/one --rules operands/rules <<LINES
 breach: photos may delete photos at /srv/hub, rule 0
-hubsync: %rules, line 2 (operands/rules line 2): nolose = BelowPath photos
-hubsync: photos, line 3 (operands/one/photos.prf line 3): path = photos
+hubsync: %rules (operands/rules line 2): nolose = BelowPath photos
+hubsync: photos (operands/one/photos.prf line 3): path = photos
 hubsync: these lines would keep the rule, for Unison too:
 hubsync: photos: nodeletion = /srv/hub
 $wider
@@ -589,7 +600,8 @@ root = /top
 root = /home/anna b/photos
 path = retry = 1
 $assumed
-hubsync: lines that don't count, as Unison does no less without them: 5, first import/common line 2: height = 20
+hubsync: and that what sshargs writes lies outside of all roots
+hubsync: lines that don't count, as Unison does no less without them: 4, first import/common line 2: height = 20
 LINES
 }
 

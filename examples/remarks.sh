@@ -274,16 +274,17 @@ ask_files() {
     printf '%s\n' 'root = /srv/hub' 'ignroe = Name x' >"$at/sub/part.prf"
     printf '%s\n' 'root = /srv/hub' 'nolose = BelowPath docs' >"$at/rules"
     printf '%s\n' 'overlap: whole writes docs at /srv/hub, part reaches docs/2026' \
-        "hubsync: whole, line 3 ($at/whole.prf line 3): path = docs" \
-        "hubsync: part, line 4 ($at/part.prf line 4): path = docs/2026" \
+        "hubsync: whole ($at/whole.prf line 3): path = docs" \
+        "hubsync: part ($at/part.prf line 4): path = docs/2026" \
         'hubsync: run one after the other, or add these lines, which hold for Unison too:' \
         'hubsync: whole: ignore = Path docs/2026' \
         'hubsync: whole: noupdatepartial = Path docs -> /srv/hub' \
-        'hubsync: whole: nocreationpartial = Path docs -> /srv/hub' >"$room/wanted"
+        'hubsync: whole: nocreationpartial = Path docs -> /srv/hub' \
+        'hubsync: whole then no longer synchronizes docs/2026' >"$room/wanted"
     ask 'files that overlap' 1 hubsync check "$at/whole.prf" "$at/part.prf"
     printf '%s\n' 'breach: whole may delete docs at /srv/hub, rule 0' \
-        "hubsync: %rules, line 2 ($at/rules line 2): nolose = BelowPath docs" \
-        "hubsync: whole, line 3 ($at/whole.prf line 3): path = docs" \
+        "hubsync: %rules ($at/rules line 2): nolose = BelowPath docs" \
+        "hubsync: whole ($at/whole.prf line 3): path = docs" \
         'hubsync: these lines would keep the rule, for Unison too:' \
         'hubsync: whole: nodeletion = /srv/hub' >"$room/wanted"
     ask 'the file of rules' 1 hubsync check --rules "$at/rules" "$at/whole.prf"
@@ -301,6 +302,42 @@ ask_files() {
         "hubsync: $at/bundle.prf line 2 begins with %, as only a line of a bundle does" >"$room/wanted"
     printf '%s\n' '# a bundle' '%profile a' >"$at/bundle.prf"
     ask 'a bundle as a file' 2 hubsync check "$at/bundle.prf"
+}
+
+# Of roots on other machines, a table of hosts is said once, and lines for profiles have the roots as these have them.
+ask_hosts() {
+    local at=$room/hosts
+    mkdir -p "$at"
+    : >"$room/input"
+    printf '%s\n' 'root = /srv/hub' 'root = ssh://anna@FS2:22//srv' 'path = docs' 'follow = Path docs/x' >"$at/whole.prf"
+    printf '%s\n' 'root = /srv/hub' 'root = ssh://laptop/work' 'path = docs/2026' >"$at/part.prf"
+    printf '%s\n' 'root = ssh://bob@laptop/x' 'root = ssh://pc1/C:/x' 'force = ssh://pc1/C:/x' >"$at/far.prf"
+    printf '%s\n' 'root = /srv/hub' 'root = ssh://anna@fs2//srv/old' 'path = old' >"$at/old.prf"
+    printf '%s\n' 'fault: profile far line 1: BadPath RemoteRoot' \
+        "hubsync: $at/far.prf line 1: root = ssh://bob@laptop/x" 'hubsync: it is on another machine: the table below has it' \
+        "hubsync: $at/far.prf line 2: root = ssh://pc1/C:/x" 'hubsync: it is on another machine: the table below has it' \
+        "hubsync: $at/far.prf line 3: force = ssh://pc1/C:/x" 'hubsync: it is on another machine: the table below has it' \
+        "hubsync: $at/old.prf line 2: root = ssh://anna@fs2//srv/old" 'hubsync: it is on another machine: the table below has it' \
+        "hubsync: $at/part.prf line 2: root = ssh://laptop/work" 'hubsync: it is on another machine: the table below has it' \
+        "hubsync: $at/whole.prf line 2: root = ssh://anna@FS2:22//srv" 'hubsync: it is on another machine: the table below has it' \
+        "hubsync: $at/whole.prf line 4: follow = Path docs/x" \
+        'hubsync: hubsync has no answer for a profile with this line: let it run by itself, when no other profile runs, also by hand' \
+        'hubsync: add --hosts FILE, where FILE has these lines:' 'hubsync:     bob@laptop~ /hosts/laptop/home/bob' \
+        'hubsync:     fs2 /hosts/fs2' 'hubsync:     laptop~ /hosts/laptop/home/NAME' 'hubsync:     pc1~ /hosts/pc1' \
+        'hubsync: behind HOST~ stands the home there: write where it is, if it is elsewhere' >"$room/wanted"
+    ask 'roots on other machines' 2 hubsync check --unison "$at"
+    sed -n 's/^hubsync:     //p' "$room/errors" >"$at/table"
+    printf '%s\n' 'fault: profile whole line 2: BadPath RemoteRoot' "hubsync: $at/whole.prf line 2: root = ssh://anna@FS2:22//srv" \
+        'hubsync: it is on another machine: the table below has it' \
+        'hubsync: add --unison and --hosts FILE, where FILE has these lines:' 'hubsync:     fs2 /hosts/fs2' >"$room/wanted"
+    ask 'a root on another machine, read plainly' 2 hubsync check "$at/whole.prf"
+    sed -i 4d "$at/whole.prf"
+    sed -i 's/^laptop~.*//' "$at/table"
+    printf '%s\n' 'fault: profile part line 2: BadPath RemoteRoot' "hubsync: $at/part.prf line 2: root = ssh://laptop/work" \
+        'hubsync: it is on another machine: the table below has it' \
+        'hubsync: add these lines to the table of --hosts:' 'hubsync:     laptop~ /hosts/laptop/home/NAME' \
+        'hubsync: behind HOST~ stands the home there: write where it is, if it is elsewhere' >"$room/wanted"
+    ask 'a host that the table lacks' 2 hubsync check --unison --hosts "$at/table" "$at"
 }
 
 # An input that fails is said with the system's words.
@@ -323,6 +360,7 @@ ask_table "$folder/remarks.txt"
 ask_commands
 ask_many
 ask_files
+ask_hosts
 ask_long
 ask_failing_input
 echo "remarks: ${1:-hubsync} was asked $asked, and said $wrong of them wrongly"

@@ -249,7 +249,7 @@ try_refused() {
 prf/common:3: Unison stops at this: batch = yes: it refuses this: write true or false
 prf/common:5: Unison stops at this: prefer = older: it wants times = true for this: add that line
 prf/common:2: refused: UnknownPreference follow: follow = Path a: hubsync has no answer for a profile with this line: run it alone
-prf/common:4: refused: UnknownPreference logfile in a root: logfile = $PWD/hub/log: Unison may write this log in a root: name a file that lies in none
+prf/common:4: refused: UnknownPreference logfile in a root: logfile = $PWD/hub/log: the log may lie in a root of a profile: write the absolute path of a file that lies in none
 nothing is started: mend these lines, or name behind the folder the profiles that are to run without the others
 LINES
     sed -i '/follow/d; /batch/d; /older/d' prf/common

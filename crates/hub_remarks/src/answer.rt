@@ -2,18 +2,21 @@
 
 use crate::asked::{say_asked_path, say_not_reached, say_profiles, say_run_fault};
 use crate::bundle::{say_bundle_fault, say_unread};
-use crate::clash::{Answers, Mending, first_clash, mending_in, say_plain_answer};
+use crate::clash::{Answers, Mending, first_clash, mending_in, say_plain_answer, say_wider};
+use crate::folded::say_folded;
+use crate::hosts::say_hosts;
 use crate::input::{FirstBytes, profile_section};
 use crate::mend::{is_bundle, lines_found};
+use crate::proposed::{say_alone, say_taken_away};
 use crate::refusal::say_refusal;
 use crate::setting::say_setting_fault;
 use crate::text::{say_certificates_fault, say_state_fault};
-use crate::unison::{Listing, is_for_unison, say_more, say_yes};
+use crate::unison::{Listing, has_word, is_for_unison, say_more, say_yes};
 use crate::words::say_words;
 use hub_bundle::SectionFault;
 use hub_notes::notes;
 use hub_report::{FaultyInput, Told};
-use hub_source::{Said, Source, SourceFile, say};
+use hub_source::{Proposal, Said, Source, SourceFile, say};
 use std::alloc::{AllocError, Global};
 
 /// Said of lines that make a set safe by hubsync's own reading.
@@ -28,6 +31,9 @@ const NO_STATE: &str =
 /// Said where no bundle says what was read for Unison.
 const NOT_IMPORTED: &str =
     "a rule's pattern would have over 200 characters with each member of its sets: write two rules";
+
+/// Said where an option is given that changes nothing.
+const NOT_LISTED: &str = "--verbose has an effect with --unison alone";
 
 /// Said where a bundle with lines isn't safe.
 const MENDED_BUNDLE: &str = "not safe: mend without --bundle says why";
@@ -84,6 +90,29 @@ impl Exchange<'_> {
     fn has_plain_lines(&self) -> bool {
         lines_found(self.told) && !is_for_unison(self.words)
     }
+
+    /// Says how profiles write the lines of the answer, and what these take away, if it has lines and isn't a bundle.
+    fn say_lines(&self, out: &mut String, source: &Source<'_>) -> Said {
+        if !lines_found(self.told) || is_bundle(self.words) {
+            return Ok(());
+        }
+        let proposals = Proposal::all_in(source, self.answers.output)?;
+        say_alone(out, source, proposals.as_slice())?;
+        for proposal in proposals.iter() {
+            if proposal.is_rewritten(source) {
+                proposal.say(out, source, "in the profiles write: ")?;
+            }
+        }
+        say_taken_away(out, source, proposals.as_slice())
+    }
+
+    /// Says which option changes nothing, if there is one.
+    fn say_unused(&self, out: &mut String) -> Said {
+        if has_word(self.words, "--verbose") && !is_for_unison(self.words) {
+            say(out, NOT_LISTED)?;
+        }
+        Ok(())
+    }
 }
 
 /// Returns whether an answer says that profiles may run at the same time or in rounds, or is a bundle.
@@ -110,14 +139,19 @@ fn remarks_on_words(alloc: Global, words: &[String]) -> Result<Remarks, AllocErr
 fn remarks_on_yes(source: &Source<'_>, exchange: Exchange<'_>) -> Result<Remarks, AllocError> {
     let is_for_unison = is_for_unison(exchange.words);
     let mut text = notes(source, is_for_unison)?;
+    if is_for_unison {
+        say_folded(&mut text, source)?;
+    }
     if exchange.has_plain_lines() {
         text.push_str(PLAIN_LINES)?;
     }
     let may_mislead = !text.is_empty();
+    exchange.say_lines(&mut text, source)?;
     if is_for_unison {
         let listing = Listing::asked_for(exchange.words);
         say_yes(&mut text, source, exchange.input, listing)?;
     }
+    exchange.say_unused(&mut text)?;
     Ok(Remarks { text, may_mislead })
 }
 
@@ -127,7 +161,9 @@ fn remarks_on_no(source: &Source<'_>, exchange: Exchange<'_>) -> Result<Remarks,
     if exchange.has_plain_lines() {
         text.push_str(PLAIN_LINES)?;
     }
+    exchange.say_lines(&mut text, source)?;
     say_no(&mut text, source, exchange)?;
+    exchange.say_unused(&mut text)?;
     Ok(Remarks {
         text,
         may_mislead: false,
@@ -142,10 +178,13 @@ fn say_no(out: &mut String, source: &Source<'_>, exchange: Exchange<'_>) -> Said
     if is_for_unison(words) {
         let listing = Listing::asked_for(words);
         let clash = first_clash(words, exchange.told);
+        if clash.is_some() {
+            say_wider(out, exchange.answers.check)?;
+        }
         say_more(out, source, exchange.input, exchange.told, clash, listing)?;
         say_plain_answer(out, source, clash, exchange.answers.check)?;
     }
-    Ok(())
+    say_hosts(out, source, words, exchange.told)
 }
 
 /// Says what belongs to an answer, by what is known of lines that mend it.

@@ -6,14 +6,15 @@ use crate::refusal::{broken_rule, named_profiles};
 use crate::unison::is_for_unison;
 use hub_notes::wider_notes;
 use hub_report::{Refusal, Told};
-use hub_source::{Said, Source, SourceFile, SourceLine, say, shown};
+use hub_source::{Said, Source, SourceFile, SourceLine};
 use hub_text::Lines;
 use std::alloc::{AllocError, Global};
 
 /// What hubsync is to be asked before it is known what to say of an overlap or a breach.
 #[derive(Drop)]
 pub struct Questions {
-    /// The bundle that `mend --unison` is asked about: the profiles that are named, and the rule. Nothing is asked if it is empty.
+    /// The bundle that `mend --unison` is asked about: the profiles that are named, and the rules, of which a breach has its own alone.
+    /// Nothing is asked if it is empty.
     pub mend: Vec<u8>,
     /// Whether `check` is asked about the input.
     pub check: bool,
@@ -28,13 +29,15 @@ pub struct Reply {
     pub told: Told,
 }
 
-/// What hubsync answered to these questions, if they were asked.
+/// What hubsync answered, and what it answered to these questions, if they were asked.
 #[derive(Clone, Copy)]
 pub struct Answers<'a> {
     /// To `mend --unison`.
     pub mend: Option<&'a Reply>,
     /// To `check`.
     pub check: Option<&'a Reply>,
+    /// The first bytes of the answer itself.
+    pub output: &'a [u8],
 }
 
 /// What is to be asked on an answer. The arguments are those of `remark`.
@@ -80,6 +83,8 @@ pub(crate) enum Mending<'a> {
     Lines(&'a [u8]),
     /// None were found in the whole set.
     NotFound,
+    /// None help: the profiles share an archive.
+    SameArchive,
     /// Nothing is known.
     Unknown,
 }
@@ -100,10 +105,11 @@ fn lines_in(reply: &Reply) -> Mending<'_> {
     let Told::Mended(mended) = &reply.told else {
         return Mending::Unknown;
     };
-    if !mended.has_lines || mended.refusal.is_some() {
-        return Mending::Unknown;
+    match &mended.refusal {
+        None if mended.has_lines => Mending::Lines(above_last(reply.text.as_slice())),
+        Some(Refusal::SameArchive { .. }) => Mending::SameArchive,
+        _ => Mending::Unknown,
     }
-    Mending::Lines(above_last(reply.text.as_slice()))
 }
 
 /// A text without its last line.
@@ -117,17 +123,9 @@ fn above_last(text: &[u8]) -> &[u8] {
     text.get(..end).unwrap_or(text)
 }
 
-/// Says these lines for profiles.
-pub(crate) fn say_lines(out: &mut String, source: &Source<'_>, text: &[u8]) -> Said {
-    for line in Lines::new(text) {
-        let line = shown(source.alloc(), line.text)?;
-        say(out, line.as_str())?;
-    }
-    Ok(())
-}
-
-/// A bundle of the profiles that an overlap or a breach names, and of the rule that may be broken. It is empty if not all lines of the
-/// input are there.
+/// A bundle of the profiles that an overlap or a breach names, and of the rules: those of the input below an overlap, since beside rules
+/// the reading for Unison counts other lines, and below a breach the rule that may be broken. It is empty if not all lines of the input
+/// are there.
 fn named_bundle(source: &Source<'_>, clash: &Refusal) -> Result<Vec<u8>, AllocError> {
     let mut bundle = Vec::new(source.alloc());
     if !source.is_whole() {
@@ -136,12 +134,23 @@ fn named_bundle(source: &Source<'_>, clash: &Refusal) -> Result<Vec<u8>, AllocEr
     for heading in named_profiles(source, clash)? {
         push_lines(&mut bundle, source.section_lines(heading.section))?;
     }
-    if let Some((root, rule)) = broken_rule(source, clash) {
-        bundle.extend_from_slice(b"%rules\n")?;
-        push_line(&mut bundle, root)?;
-        push_line(&mut bundle, rule)?;
+    match broken_rule(source, clash) {
+        Some((root, rule)) => {
+            bundle.extend_from_slice(b"%rules\n")?;
+            push_line(&mut bundle, root)?;
+            push_line(&mut bundle, rule)?;
+        }
+        None => push_lines(&mut bundle, rules_section(source))?,
     }
     Ok(bundle)
+}
+
+/// The lines of the rules, their heading first. There are none if there is no such section.
+fn rules_section<'s, 'a>(source: &'s Source<'a>) -> &'s [SourceLine<'a>] {
+    match source.section("%rules") {
+        Some(section) => source.section_lines(section),
+        None => &[],
+    }
 }
 
 /// Adds these lines to a bundle.
@@ -157,6 +166,21 @@ fn push_line(bundle: &mut Vec<u8>, line: SourceLine<'_>) -> Said {
     bundle.extend_from_slice(line.bytes)?;
     bundle.push(b'\n')?;
     Ok(())
+}
+
+/// Says that an overlap or a breach may come of the wider reading alone, and to compare the answer by hubsync's own reading, unless that
+/// is a fault.
+pub(crate) fn say_wider(out: &mut String, answer: Option<&Reply>) -> Said {
+    out.push_str("hubsync: more counts with --unison than may happen")?;
+    let is_fault = match answer {
+        Some(plain) => matches!(plain.told, Told::Faulty(_)),
+        None => false,
+    };
+    out.push_str(if is_fault {
+        "\n"
+    } else {
+        ": compare the answer without it\n"
+    })
 }
 
 /// Says what `check` answered by hubsync's own reading, where the reading for Unison has an overlap or a breach. If that is `safe`,

@@ -12,10 +12,12 @@
 //! lines of the input (`hub_source`). So this crate takes part in no answer, and it reads none that was printed. It reads no profile but
 //! for the lines that an answer for Unison leaves out or refuses (`hub_preferences`), or has no room for (`hub_unison`).
 //!
-//! - Faults: `bundle` of the headings, `setting`, `value` and `pattern` of profiles and rules, `text` of states and certificates.
+//! - Faults: `bundle` of the headings, `setting`, `unknown`, `value`, `remote` and `pattern` of profiles and rules, `text` of states and
+//!   certificates. The table that roots on other machines need: `hosts`.
 //! - Refusals and the lines that make them so: `refusal`. What `reach`, `run` and the command line were asked: `asked`; the
 //!   line that ignores a path: `ignored`. Words that ask for nothing: `words`.
-//! - A yes that may mislead: the crate `hub_notes`. An answer for Unison: `unison`, `limit`. Lines that make a set safe: `mend`.
+//! - A yes that may mislead: the crate `hub_notes`, and `folded`. An answer for Unison: `unison`, `limit`. Lines that make a set safe:
+//!   `mend`, and what they take away: `proposed`.
 //! - What hubsync is asked about an overlap or a breach ([`what_to_ask`]), and its [`Answers`]: `clash`.
 //!
 //! The text is free, and is only tested (`examples/remarks.txt`). What is proved is that each function is safe and ends.
@@ -27,17 +29,23 @@ mod answer;
 mod asked;
 mod bundle;
 mod clash;
+mod elsewhere;
+mod folded;
+mod hosts;
 mod ignored;
 mod input;
 mod limit;
 mod mend;
 mod nested;
 mod pattern;
+mod proposed;
 mod refusal;
 mod remedy;
+mod remote;
 mod setting;
 mod text;
 mod unison;
+mod unknown;
 mod value;
 mod words;
 

@@ -1,5 +1,6 @@
 //! Lines that are left out for a limit, where a profile is read for Unison.
 
+use hub_notes::is_rule;
 use hub_path::Name;
 use hub_preferences::counted;
 use hub_profile::{PATTERN_LINES, Profile, read_profile};
@@ -24,12 +25,9 @@ pub(crate) fn cut_lines(source: &Source<'_>, input: &[u8]) -> Result<Vec<usize>,
 }
 
 /// Returns whether there is a rule.
-fn has_rules(source: &Source<'_>) -> bool {
+pub(crate) fn has_rules(source: &Source<'_>) -> bool {
     match source.section("%rules") {
-        Some(section) => source
-            .section_lines(section)
-            .iter()
-            .any(|line| line.setting().is_some()),
+        Some(section) => source.section_lines(section).iter().any(is_rule),
         None => false,
     }
 }

@@ -1,12 +1,18 @@
 //! Remarks on sets that are refused: the lines that make it so.
 
-use crate::clash::{Mending, say_lines};
+use crate::clash::Mending;
+use crate::limit::has_rules;
 use crate::nested::say_other_nested;
+use crate::proposed::{say_alone, say_taken_away};
 use hub_notes::{has_no_path, is_rule, is_same_root, line_above};
 use hub_profile::Verb;
 use hub_report::Refusal;
-use hub_source::{Said, Source, SourceLine, name_of, say, say_placed};
+use hub_source::{Proposal, Said, Source, SourceLine, name_of, say, say_placed};
 use std::alloc::AllocError;
+
+/// Said of two profiles that share an archive.
+const SAME_ARCHIVE: &str =
+    "run one after the other: Unison has one archive for both, and two runs at once bring deleted files back";
 
 /// Says which lines a refusal is about, and what to do.
 pub(crate) fn say_refusal(
@@ -20,16 +26,10 @@ pub(crate) fn say_refusal(
             say_named(out, source, refusal, path.as_str())?;
             say_parting(out, source, mending)
         }
-        Refusal::Breach {
-            rule,
-            verb,
-            path,
-            root,
-            ..
-        } => {
+        Refusal::Breach { rule, path, .. } => {
             say_rule(out, source, *rule)?;
             say_named(out, source, refusal, path.as_str())?;
-            say_keeping(out, source, *verb, root.as_str(), mending)
+            say_keeping(out, source, refusal, mending)
         }
         _ => say_refused(out, source, refusal),
     }
@@ -50,34 +50,49 @@ fn say_refused(out: &mut String, source: &Source<'_>, refusal: &Refusal) -> Said
             out,
             "a profile's paths and patterns have at most 4,096 beginnings",
         ),
-        Refusal::SameArchive { .. } => say(
-            out,
-            "run one after the other: Unison has one archive for both, and two runs at once bring deleted files back",
-        ),
+        Refusal::SameArchive { .. } => say(out, SAME_ARCHIVE),
         Refusal::TooLarge => say(out, "nothing is known: fewer * in patterns would help"),
         _ => say_certificates(out, source),
     }
 }
 
-/// Says what keeps two profiles apart that overlap.
+/// Says what keeps two profiles apart that overlap. Beside rules the reading for Unison counts no `ignore` line and no bar on paths.
 fn say_parting(out: &mut String, source: &Source<'_>, mending: Mending<'_>) -> Said {
     match mending {
-        Mending::Lines(lines) => {
-            say(
-                out,
-                "run one after the other, or add these lines, which hold for Unison too:",
-            )?;
-            say_lines(out, source, lines)
-        }
-        Mending::NotFound => say(
-            out,
-            "run one after the other, as rounds does, or give one other paths",
-        ),
-        Mending::Unknown => say(
+        Mending::Lines(lines) => say_parting_lines(out, source, lines),
+        Mending::SameArchive => say(out, SAME_ARCHIVE),
+        Mending::Unknown if !has_rules(source) => say(
             out,
             "run one after the other, or give one other paths, an ignore or a bar",
         ),
+        _ => say(
+            out,
+            "run one after the other, as rounds does, or give one other paths",
+        ),
     }
+}
+
+/// Says these lines for profiles, and what they take away.
+fn say_parting_lines(out: &mut String, source: &Source<'_>, lines: &[u8]) -> Said {
+    let proposals = Proposal::all_in(source, lines)?;
+    let has_alone = say_alone(out, source, proposals.as_slice())?;
+    say(
+        out,
+        if has_alone {
+            "or add these lines, which hold for Unison too:"
+        } else {
+            "run one after the other, or add these lines, which hold for Unison too:"
+        },
+    )?;
+    say_proposals(out, source, proposals.as_slice())
+}
+
+/// Says these lines, and what they take away.
+fn say_proposals(out: &mut String, source: &Source<'_>, proposals: &[Proposal<'_>]) -> Said {
+    for proposal in proposals {
+        proposal.say(out, source, "")?;
+    }
+    say_taken_away(out, source, proposals)
 }
 
 /// Says which lines give a path to the profiles that a refusal names.
@@ -126,21 +141,21 @@ pub(crate) fn say_kept(out: &mut String, source: &Source<'_>, section: usize, pa
     }
 }
 
-/// Says which lines would keep a rule.
+/// Says which lines would keep a rule that a breach is of.
 fn say_keeping(
     out: &mut String,
     source: &Source<'_>,
-    verb: Verb,
-    root: &str,
+    breach: &Refusal,
     mending: Mending<'_>,
 ) -> Said {
     match mending {
         Mending::Lines(lines) => {
+            let proposals = Proposal::all_in(source, lines)?;
             say(out, "these lines would keep the rule, for Unison too:")?;
-            say_lines(out, source, lines)
+            say_proposals(out, source, proposals.as_slice())
         }
-        Mending::NotFound => Ok(()),
-        Mending::Unknown => say_bar(out, verb, root),
+        Mending::NotFound | Mending::SameArchive => Ok(()),
+        Mending::Unknown => say_bar(out, source, breach),
     }
 }
 
@@ -152,17 +167,26 @@ fn say_rule(out: &mut String, source: &Source<'_>, number: usize) -> Said {
     }
 }
 
-/// Says which bar forbids a change.
-fn say_bar(out: &mut String, verb: Verb, root: &str) -> Said {
+/// Says which bar forbids the change that a breach is of.
+fn say_bar(out: &mut String, source: &Source<'_>, breach: &Refusal) -> Said {
+    let Refusal::Breach { verb, root, .. } = breach else {
+        return Ok(());
+    };
     let bar = match verb {
         Verb::Create => "nocreation",
         Verb::Update => "noupdate",
         Verb::Delete => "nodeletion",
     };
-    writeln!(
-        out,
-        "hubsync: a line {bar} = {root} in the profile would keep the rule"
-    )
+    for heading in named_profiles(source, breach)? {
+        let root = source
+            .root_written(heading.section, root.as_str())
+            .unwrap_or(root.as_str());
+        writeln!(
+            out,
+            "hubsync: a line {bar} = {root} in the profile would keep the rule"
+        )?;
+    }
+    Ok(())
 }
 
 /// The rule that a breach names, and the line of its root.

@@ -1,55 +1,13 @@
 //! Remarks on faults of profiles and rules.
 
 use crate::pattern::say_bad_pattern;
-use crate::remedy::say_nearest;
+use crate::remote::say_remote;
+use crate::unknown::{PREFERENCES, RULE_NAMES, say_unknown};
 use crate::value::{say_bad_path, say_too_many};
+use hub_path::PathFault;
 use hub_profile::{Fault, ProfileFault};
 use hub_source::{LinePlace, Said, Source, SourceLine, odd_encoding, say, say_line, trimmed};
 use hub_text::first_word;
-use std::alloc::Global;
-
-/// The preferences of a profile that hubsync reads.
-const PREFERENCES: &[&str] = &[
-    "root",
-    "path",
-    "ignore",
-    "ignorenot",
-    "force",
-    "prefer",
-    "nodeletion",
-    "noupdate",
-    "nocreation",
-    "nodeletionpartial",
-    "noupdatepartial",
-    "nocreationpartial",
-    "auto",
-    "batch",
-    "confirmbigdel",
-    "contactquietly",
-    "fastcheck",
-    "group",
-    "key",
-    "label",
-    "log",
-    "logfile",
-    "owner",
-    "perms",
-    "silent",
-    "terse",
-    "times",
-];
-
-/// The preferences of rules.
-const RULES: &[&str] = &["root", "nolose", "nochange", "nonew"];
-
-/// Preferences that hubsync refuses, and that change nothing that is synchronized.
-const WITHOUT_EFFECT: &str = "\
-    addprefsto addversionno backup backupcurr backupcurrent backupcurrentnot \
-    backupcurrnot backupnot backupprefix backupsuffix backupversions color confirmmerge \
-    copymax copyprog copyprogrest copyquoterem copythreshold debug diff dontchmod \
-    dumbtty halfduplex height ignoreinodenumbers killserver maxbackups maxthreads \
-    numericids repeat retry rsync servercmd showarchive sortbysize sortfirst sortlast \
-    sortnewfirst sshargs sshcmd stream watch xferbycopying";
 
 /// Says what to do about a fault of a profile, or of the rules, by the section.
 pub(crate) fn say_setting_fault(
@@ -125,13 +83,13 @@ fn say_line_fault(
     fault: &Fault,
     is_of_rules: bool,
 ) -> Said {
-    let alloc = source.alloc();
     let name = line.name();
     match fault {
         Fault::NoEquals => say_no_equals(out, trimmed(line.text())),
-        Fault::UnknownPreference(_) => say_unknown(out, alloc, name, is_of_rules),
+        Fault::UnknownPreference(_) => say_unknown(out, source.alloc(), line, is_of_rules),
+        Fault::BadPath(PathFault::RemoteRoot) => say_remote(out, source, line),
         Fault::BadPath(fault) => say_bad_path(out, line.value(), *fault),
-        Fault::BadPattern(fault) => say_bad_pattern(out, alloc, line.text(), *fault),
+        Fault::BadPattern(fault) => say_bad_pattern(out, source.alloc(), line.text(), *fault),
         Fault::Repeated => say_repeated(out, source, line.section, name),
         Fault::TooMany => say_too_many(out, name),
         Fault::NotARoot => say_roots(
@@ -185,10 +143,13 @@ fn say_unread(out: &mut String, line: &SourceLine<'_>) -> Said {
     let byte = error.valid_up_to().saturating_add(1);
     let number = line.number;
     let place = line.place();
-    writeln!(
-        out,
-        "hubsync: line {number} ({place}) is not UTF-8 at byte {byte}"
-    )?;
+    match line.file {
+        Some(_) => writeln!(out, "hubsync: {place} is not UTF-8 at byte {byte}")?,
+        None => writeln!(
+            out,
+            "hubsync: line {number} ({place}) is not UTF-8 at byte {byte}"
+        )?,
+    }
     match odd_encoding(line.bytes) {
         Some(words) => say(out, words),
         None => say(out, "save the file as UTF-8"),
@@ -199,73 +160,12 @@ fn say_unread(out: &mut String, line: &SourceLine<'_>) -> Said {
 fn say_no_equals(out: &mut String, text: &str) -> Said {
     let (word, rest) = first_word(text);
     let rest = trimmed(rest);
-    if PREFERENCES.contains(&word) || RULES.contains(&word) {
+    if PREFERENCES.contains(&word) || RULE_NAMES.contains(&word) {
         return writeln!(out, "hubsync: there is no = in it: write {word} = {rest}");
     }
     say(
         out,
         "there is no = in it: a line is NAME = VALUE, or begins with #",
-    )
-}
-
-/// Says what an unknown preference may mean. A `logfile` line is refused by its place alone.
-fn say_unknown(out: &mut String, alloc: Global, name: &str, is_of_rules: bool) -> Said {
-    if name == "logfile" && !is_of_rules {
-        return say(
-            out,
-            "Unison may write this log in a root: name a file that lies in none",
-        );
-    }
-    if WITHOUT_EFFECT.split(' ').any(|word| word == name) {
-        return writeln!(
-            out,
-            "hubsync: {name} changes nothing that is synchronized: leave it out"
-        );
-    }
-    if is_of_rules {
-        say_unknown_rule(out, alloc, name)
-    } else {
-        say_unknown_preference(out, alloc, name)
-    }
-}
-
-/// Says what an unknown rule may mean.
-fn say_unknown_rule(out: &mut String, alloc: Global, name: &str) -> Said {
-    if PREFERENCES.contains(&name) {
-        return writeln!(
-            out,
-            "hubsync: {name} is for profiles: the rules are nolose, nochange, nonew"
-        );
-    }
-    say_nearest(
-        out,
-        alloc,
-        name,
-        RULES,
-        "rules are nolose, nochange and nonew, each below a line root = ..",
-    )
-}
-
-/// Says what an unknown preference of a profile may mean.
-fn say_unknown_preference(out: &mut String, alloc: Global, name: &str) -> Said {
-    if RULES.contains(&name) {
-        return writeln!(
-            out,
-            "hubsync: {name} is a rule: a line %rules is missing above it"
-        );
-    }
-    if name == "backupdir" {
-        return say(
-            out,
-            "leave the line out if this folder lies in no root of any profile",
-        );
-    }
-    say_nearest(
-        out,
-        alloc,
-        name,
-        PREFERENCES,
-        "docs/UNISON.md lists them under Which preferences count",
     )
 }
 

@@ -1,5 +1,6 @@
 //! Remarks on answers about what Unison may do by the profiles.
 
+use crate::elsewhere::{say_elsewhere, writes_elsewhere};
 use crate::input::profile_section;
 use crate::limit::cut_lines;
 use crate::setting::{fault_line, say_fault_on};
@@ -9,7 +10,7 @@ use hub_preferences::{Finding, Outcome, findings};
 use hub_profile::{Fault, PATTERN_LINES};
 use hub_report::{FaultyInput, Refusal, Told};
 use hub_source::{Said, Source, shown};
-use std::alloc::{AllocError, Global};
+use std::alloc::AllocError;
 use std::collections::BTreeSet;
 
 /// What an answer for Unison assumes.
@@ -73,6 +74,7 @@ pub(crate) fn say_yes(
     listing: Listing,
 ) -> Said {
     out.push_str(ASSUMED)?;
+    say_elsewhere(out, source)?;
     say_uncounted(out, source, input, listing)
 }
 
@@ -83,8 +85,7 @@ fn say_uncounted(out: &mut String, source: &Source<'_>, input: &[u8], listing: L
     say_cut(out, source, input, listing)
 }
 
-/// Says what more belongs to another answer for Unison. An overlap or a breach that it begins with may come of the wider reading
-/// alone. Of a fault of a profile, that is what to do about all other lines that are refused. Both get which lines don't count.
+/// Says what more belongs to another answer for Unison, which may begin with an overlap or a breach. Of a fault of a profile, that is what to do about all other lines that are refused. Both get which lines don't count.
 pub(crate) fn say_more(
     out: &mut String,
     source: &Source<'_>,
@@ -94,9 +95,6 @@ pub(crate) fn say_more(
     listing: Listing,
 ) -> Said {
     if clash.is_some() {
-        out.push_str(
-            "hubsync: more counts with --unison than may happen: compare the answer without it\n",
-        )?;
         return say_uncounted(out, source, input, listing);
     }
     match told {
@@ -181,7 +179,10 @@ fn say_refused(
     }
     match count.saturating_sub(most) {
         0 => Ok(()),
-        more => writeln!(out, "hubsync: more lines that are refused: {more}"),
+        more => writeln!(
+            out,
+            "hubsync: more lines that are refused: {more}: --verbose lists them"
+        ),
     }
 }
 
@@ -193,14 +194,15 @@ fn say_refused_line(out: &mut String, source: &Source<'_>, number: usize, fault:
     }
 }
 
-/// Says how many lines don't count for Unison, and which is the first, or which they are. Nothing is said if all of them count.
+/// Says how many lines don't count since Unison does no less without them, and which is the first, or which they are. Nothing is said if
+/// there are none. Those by which Unison writes elsewhere are not among them.
 fn say_left_out(
     out: &mut String,
     source: &Source<'_>,
     findings: &[Finding],
     listing: Listing,
 ) -> Said {
-    let left_out = left_out_in(source.alloc(), findings)?;
+    let left_out = left_out_in(source, findings)?;
     let Some((first, others)) = left_out.as_slice().split_first() else {
         return Ok(());
     };
@@ -249,15 +251,22 @@ fn cut_once(source: &Source<'_>, input: &[u8]) -> Result<Vec<usize>, AllocError>
     Ok(once)
 }
 
-/// The numbers of the lines that don't count.
-fn left_out_in(alloc: Global, findings: &[Finding]) -> Result<Vec<usize>, AllocError> {
-    let mut numbers = Vec::new(alloc);
+/// The numbers of the lines that don't count, but for those by which Unison writes elsewhere.
+fn left_out_in(source: &Source<'_>, findings: &[Finding]) -> Result<Vec<usize>, AllocError> {
+    let mut numbers = Vec::new(source.alloc());
     for finding in findings {
-        if matches!(finding.outcome, Outcome::LeftOut) {
+        if matches!(finding.outcome, Outcome::LeftOut) && !is_elsewhere(source, finding.line) {
             numbers.push(finding.line)?;
         }
     }
     Ok(numbers)
+}
+
+/// Returns whether Unison writes elsewhere by the line of that number.
+fn is_elsewhere(source: &Source<'_>, number: usize) -> bool {
+    source
+        .line_at(number)
+        .is_some_and(|line| writes_elsewhere(&line))
 }
 
 /// Says that each of these lines doesn't count.

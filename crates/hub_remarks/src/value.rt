@@ -6,7 +6,6 @@ use hub_source::{Said, say};
 /// Says what is wrong with the text of a path or a root.
 pub(crate) fn say_bad_path(out: &mut String, value: &str, fault: PathFault) -> Said {
     match fault {
-        PathFault::RemoteRoot => say_remote(out, value),
         PathFault::LeadingSlash => say_leading_slash(out, value),
         PathFault::EmptyName => say_twice(out, value),
         _ => say(out, path_remedy(fault)),
@@ -52,7 +51,7 @@ pub(crate) fn say_twice(out: &mut String, path: &str) -> Said {
 }
 
 /// Adds a front and the names of a path, with one `/` between two.
-fn push_path(out: &mut String, front: &str, path: &str) -> Said {
+pub(crate) fn push_path(out: &mut String, front: &str, path: &str) -> Said {
     let mut is_first = true;
     for name in path.split('/') {
         if !name.is_empty() {
@@ -62,38 +61,6 @@ fn push_path(out: &mut String, front: &str, path: &str) -> Said {
         }
     }
     Ok(())
-}
-
-/// Says how to write a root on another machine, or one that is written as a URI.
-fn say_remote(out: &mut String, value: &str) -> Said {
-    let (protocol, rest) = value.split_once("//").unwrap_or(("", value));
-    let (host, path) = rest.split_once('/').unwrap_or((rest, ""));
-    let (user, machine) = host.rsplit_once('@').unwrap_or(("NAME", host));
-    let machine = without_port(machine);
-    out.push_str("hubsync: write ")?;
-    if protocol == "file:" || machine.is_empty() {
-        push_path(out, "/", rest)?;
-        return out.push_str(" in its place, in all profiles alike\n");
-    }
-    write!(out, "/hosts/{machine}")?;
-    if path.starts_with('/') {
-        push_path(out, "/", path)?;
-        return out.push_str(" in its place, in all profiles alike\n");
-    }
-    write!(out, "/home/{user}")?;
-    push_path(out, "/", path)?;
-    writeln!(
-        out,
-        " if the home there is /home/{user}, in all profiles alike"
-    )
-}
-
-/// A host without the number of a port behind it.
-fn without_port(host: &str) -> &str {
-    match host.rsplit_once(':') {
-        Some((machine, port)) if port.bytes().all(|byte| byte.is_ascii_digit()) => machine,
-        _ => host,
-    }
 }
 
 /// Says how many lines of a preference there may be.

@@ -20,12 +20,15 @@ use std::time::Clock;
 /// How many bytes of the input are kept for remarks.
 const INPUT_BYTES: usize = 1_048_576;
 
+/// How many bytes of the output are kept for remarks on lines that it has for profiles.
+const OUTPUT_BYTES: usize = 262_144;
+
 /// What is kept of the input and of the output, and who reads standard error.
 #[derive(Drop)]
 pub struct Capture {
     /// Of the input.
     pub input: RefCell<Prefix>,
-    /// Of the output, of which no bytes are kept.
+    /// Of the output.
     pub output: RefCell<Prefix>,
     /// Whether standard error is a terminal.
     pub by_terminal: bool,
@@ -36,7 +39,7 @@ impl Capture {
     pub fn new(alloc: Global, by_terminal: bool) -> Capture {
         Capture {
             input: RefCell::new(Prefix::new(alloc, INPUT_BYTES)),
-            output: RefCell::new(Prefix::new(alloc, 0)),
+            output: RefCell::new(Prefix::new(alloc, OUTPUT_BYTES)),
             by_terminal,
         }
     }
@@ -113,7 +116,7 @@ fn say_remarks<T: AllocGlobal + Clock + Eprint + Threads + Wait + Sync>(
     if let Some(error) = input.error() {
         let _ = eprintln!(rt; "hubsync: standard input can't be read: {error}");
     }
-    match remarks_on(rt, words, files, &input, told) {
+    match remarks_on(rt, words, files, &input, &output, told) {
         Ok(remarks) => {
             let text = remarks.text.as_str();
             let _ = eprint!(rt; "{text}");
@@ -129,6 +132,7 @@ fn remarks_on<T: AllocGlobal + Clock + Eprint + Threads + Wait + Sync>(
     words: &[String],
     files: &[SourceFile<'_>],
     input: &Prefix,
+    output: &Prefix,
     told: &Told,
 ) -> Result<Remarks, AllocError> {
     let input = input.first_bytes()?;
@@ -138,6 +142,7 @@ fn remarks_on<T: AllocGlobal + Clock + Eprint + Threads + Wait + Sync>(
     let answers = Answers {
         mend: mend.as_ref(),
         check: check.as_ref(),
+        output: output.first_bytes()?.bytes,
     };
     let remarks = remark(rt.alloc(), words, files, input, told, answers)?;
     Ok(remarks)

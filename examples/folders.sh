@@ -146,6 +146,8 @@ hubsync: note: Unison locks the archive of two roots: don't run these profiles a
 $assumed
 hubsync: note: parts/base.prf is no profile here, since parts/docs.prf includes it: name both files to ask about both
 hubsync: note: parts/base.prf is no profile here, since parts/photos.prf includes it: name both files to ask about both
+hubsync: note: parts/comment.prf sets no root: left out
+hubsync: note: parts/more.prf sets no root: left out
 LINES
     put_profile parts/z.prf 'path = docs/old'
     ask 1 check --unison parts/ <<LINES
@@ -161,6 +163,8 @@ $wider
 hubsync: without --unison: overlap: docs writes docs at /srv/hub, z reaches docs/old
 hubsync: note: parts/base.prf is no profile here, since parts/docs.prf includes it: name both files to ask about both
 hubsync: note: parts/base.prf is no profile here, since parts/photos.prf includes it: name both files to ask about both
+hubsync: note: parts/comment.prf sets no root: left out
+hubsync: note: parts/more.prf sets no root: left out
 LINES
     ask 1 clashes --unison parts/base.prf parts/photos.prf <<LINES
 overlap: base writes photos at /srv/hub, photos reaches photos
@@ -178,6 +182,114 @@ hubsync: without --unison: overlap: base writes photos at /srv/hub, photos reach
 LINES
 }
 
+# Files that have the ending of a profile and set no root: one that was meant as a profile has a note, and one that says nothing or that
+# another one includes has none.
+try_rootless() {
+    put rootless/common 'root = /srv/hub' 'root = /srv/p3'
+    put rootless/default.prf '# Unison preferences file'
+    put rootless/empty.prf $'\r' $' \t# root = /srv/hub' ''
+    put_profile rootless/docs.prf 'include shared' 'path = docs'
+    put rootless/shared.prf 'ignore = Name *.tmp'
+    ask 0 check --unison --strict rootless <<LINES
+safe
+$assumed
+LINES
+    put rootless/blank.prf ' include common'
+    put rootless/tab.prf $'include\tcommon'
+    put rootless/user.prf 'include shared' 'path = user'
+    ask 0 check --unison rootless <<LINES
+safe
+$assumed
+hubsync: note: rootless/blank.prf sets no root: left out
+hubsync: note: rootless/tab.prf sets no root: left out
+hubsync: note: rootless/user.prf sets no root: left out
+LINES
+    ask 1 rounds --unison --strict rootless/ <<LINES
+rounds 1
+at least 1
+round 1 docs
+$assumed
+hubsync: note: rootless/blank.prf sets no root: left out
+hubsync: note: rootless/tab.prf sets no root: left out
+hubsync: note: rootless/user.prf sets no root: left out
+LINES
+    rm rootless/docs.prf rootless/{blank,tab,user}.prf
+    ask 0 check --unison rootless <<LINES
+safe
+hubsync: note: the input has no profile, so nothing was checked
+$assumed
+hubsync: note: rootless/shared.prf sets no root: left out
+LINES
+    put rootless/user.prf 'include? none'
+    put rootless/lost.prf 'include none'
+    ask 2 check --unison rootless <<LINES
+fault: rootless/lost.prf: NoFile
+hubsync: rootless/lost.prf, line 1 names a file that isn't in the profile's folder: include none
+LINES
+}
+
+# All profiles have 16 MiB at most, each with what it includes. Files of a folder that are no profiles count while it is read.
+try_long() {
+    local long='hubsync: note: the input is longer than what notes are made of: 1 MiB and 50,000 lines'
+    put_profile long/a.prf 'include part' 'path = a'
+    put_profile long/b.prf 'include part' 'path = b'
+    # each has 54 bytes beside those of the part, where the line that includes it has two more
+    { printf '#' && head -c 8388552 /dev/zero | tr '\0' x && echo; } >long/part
+    ask 0 check --unison long <<LINES
+safe
+$long
+$assumed
+LINES
+    ask 0 check --unison long/b.prf long/a.prf <<LINES
+safe
+$long
+$assumed
+LINES
+    put long/none.prf '#'
+    ask 2 check --unison long <<LINES
+fault: long/none.prf: TooLong
+hubsync: with long/none.prf the profiles have more than 16 MiB, included lines each time
+LINES
+    rm long/none.prf
+    echo >>long/part
+    ask 2 check --unison long <<LINES
+fault: long/b.prf: TooLong
+hubsync: with long/b.prf the profiles have more than 16 MiB, included lines each time
+LINES
+    ask 2 rounds --unison long/b.prf long/a.prf <<LINES
+fault: long/a.prf: TooLong
+hubsync: with long/a.prf the profiles have more than 16 MiB, included lines each time
+LINES
+    put_profile long/c.prf 'include none'
+    ask 2 clashes --unison long/a.prf long/b.prf long/c.prf <<LINES
+fault: long/b.prf: TooLong
+hubsync: with long/b.prf the profiles have more than 16 MiB, included lines each time
+LINES
+    put long/part 'source none'
+    ask 2 check --unison long/b.prf <<LINES
+fault: long/part: NoFile
+hubsync: long/part, line 1 names a file that isn't in the profile's folder: source none
+LINES
+}
+
+# Small files that include each other may be a long profile.
+try_included_often() {
+    local each name number
+    for each in 'a b' 'b c' 'c d' 'd e'; do
+        name=${each#* }
+        put "often/${each% *}" "include $name" "include $name" "include $name" "include $name" "include $name" "include $name" \
+            "include $name" "include $name" "include $name" "include $name"
+    done
+    put often/e '# a comment'
+    for ((number = 100; number < 200; number++)); do
+        put_profile "often/$number.prf" 'include a' "path = $number"
+    done
+    ask 2 check --unison often <<LINES
+fault: often/166.prf: TooLong
+hubsync: with often/166.prf the profiles have more than 16 MiB, included lines each time
+LINES
+}
+
 # A file that is missing.
 try_missing() {
     put_profile missing/maybe/docs.prf 'include? none' 'source? none.prf' 'path = a'
@@ -188,14 +300,14 @@ LINES
     put_profile missing/surely/docs.prf 'path = a' 'include none'
     ask 2 check --unison missing/surely <<LINES
 fault: missing/surely/docs.prf: NoFile
-hubsync: missing/surely/docs.prf, line 4 names a file that isn't in the profile's folder
+hubsync: missing/surely/docs.prf, line 4 names a file that isn't in the profile's folder: include none
 LINES
     put_profile missing/source/docs.prf 'include part'
     put missing/source/part 'path = a' 'source docs2'
     put missing/source/docs2.prf
     ask 2 check --unison missing/source/docs.prf <<LINES
 fault: missing/source/part: NoFile
-hubsync: missing/source/part, line 2 names a file that isn't in the profile's folder
+hubsync: missing/source/part, line 2 names a file that isn't in the profile's folder: source docs2
 LINES
     ask 2 check --unison missing/docs.prf <<LINES
 fault: missing/docs.prf: ReadFailed
@@ -355,7 +467,7 @@ LINES
     mkdir many/folder
     ask 2 check --unison many/first.prf <<LINES
 fault: many/first.prf: NoFile
-hubsync: many/first.prf, line 3 names a file that isn't in the profile's folder
+hubsync: many/first.prf, line 3 names a file that isn't in the profile's folder: source none
 LINES
     put_profile many/second.prf 'source inner' 'source none'
     put many/inner 'source folder'
@@ -437,6 +549,38 @@ LINES
 safe
 $assumed
 LINES
+    local root
+    for root in ssh://bob@DESK//data/ /hosts/other/data; do
+        put remote/rules "root = $root" 'nolose = BelowPath other'
+        ask 1 check --unison remote/unison --hosts remote/table --rules remote/rules <<LINES
+breach: other may delete other at /hosts/other/data, rule 0
+hubsync: %rules (remote/rules line 2): nolose = BelowPath other
+hubsync: other (remote/unison/other.prf line 3): path = other
+hubsync: these lines would keep the rule, for Unison too:
+hubsync: other: nodeletion = socket://desk:4000//data
+$wider
+hubsync: without --unison: breach: other may delete other at /hosts/other/data, rule 0
+LINES
+    done
+    put remote/rules 'root = ssh://anna@desk//srv' 'nolose = BelowPath desk'
+    ask 0 check --unison remote/unison --hosts remote/table --rules remote/rules <<LINES
+safe
+$assumed
+LINES
+    ask 2 check --unison remote/unison --hosts remote/table --rules remote/rules/none <<LINES
+fault: remote/rules/none: ReadFailed
+hubsync: remote/rules/none can't be read: Not a directory (os error 20)
+LINES
+    put remote/folding 'folds-names desk /hosts/other' 'folds-names  anna@desk /hosts/desk/' 'laptop~  /home/anna b' $'folds-names\tlaptop /'
+    ask 0 check --unison remote/unison --hosts remote/folding <<LINES
+safe
+$assumed
+LINES
+    put remote/folding 'folds-names desk'
+    ask 2 check --unison remote/unison --hosts remote/folding <<LINES
+fault: remote/folding: BadHost
+hubsync: remote/folding, line 1 isn't HOST PATH, as: build /hosts/build
+LINES
     ask 2 check --unison remote/unison <<LINES
 fault: profile desk line 2: BadPath RemoteRoot
 hubsync: remote/unison/desk.prf line 2: root = ssh://anna@Desk:22//srv/
@@ -466,6 +610,23 @@ hubsync: add these lines to the table of --hosts:
 hubsync:     desk~ /hosts/desk/home/NAME
 hubsync: behind HOST~ stands the home there: write where it is, if it is elsewhere
 LINES
+    put remote/names/docs.prf 'root = /srv/hub' 'root = ssh://Desk//srv/docs' 'path = docs'
+    put remote/names/old.prf 'root = /srv/hub' 'root = socket://bob@dESK:4000//srv/docs/' 'path = docs/old'
+    ask 1 check --unison remote/names --hosts remote/table <<LINES
+overlap: docs writes docs at /srv/hub, old reaches docs/old
+LINES
+    put remote/names/old.prf 'root = //srv/hub' 'root = ssh://desk//srv/docs' 'path = docs/old'
+    ask 2 check --unison remote/names --hosts remote/table <<LINES
+fault: profile old line 1: BadPath RemoteRoot
+hubsync: remote/names/old.prf line 1: root = //srv/hub
+hubsync: to Unison it is a path of this machine: write /srv/hub
+LINES
+    put remote/names/old.prf 'root = file:///srv/hub' 'root = ssh://desk//srv/docs' 'path = docs/old'
+    ask 2 check --unison remote/names --hosts remote/table <<LINES
+fault: profile old line 1: BadPath RemoteRoot
+hubsync: remote/names/old.prf line 1: root = file:///srv/hub
+hubsync: Unison takes it for the relative path srv/hub: write the absolute path
+LINES
     put remote/bad '# hosts' '' 'desk hosts/desk'
     ask 2 check --unison remote/unison --hosts remote/bad <<LINES
 fault: remote/bad: BadHost
@@ -479,6 +640,71 @@ LINES
     ask 2 check --unison remote/unison --hosts remote/none <<LINES
 fault: remote/none: ReadFailed
 hubsync: remote/none can't be read: No such file or directory (os error 2)
+LINES
+}
+
+# A folder of profiles in a root: Unison keeps its archives there, and would synchronize them.
+try_archives() {
+    local here
+    here=$(pwd -P)
+    local lies="hubsync: note: $here/archives/home/.unison lies in $here/archives/home, a root of"
+    local own='Unison would synchronize its own archives'
+    put archives/home/.unison/docs.prf "root = $here/archives/home" 'root = /srv/docs'
+    ask 0 check --unison archives/home/.unison <<LINES
+safe
+$assumed
+$lies archives/home/.unison/docs.prf: $own: add ignore = Path .unison
+LINES
+    ask 1 check --unison --strict archives/home/.unison/docs.prf <<LINES
+safe
+$assumed
+$lies archives/home/.unison/docs.prf: $own: add ignore = Path .unison
+LINES
+    (
+        cd archives/home/.unison
+        ask 0 check --unison docs.prf <<LINES
+safe
+$assumed
+$lies docs.prf: $own: add ignore = Path .unison
+LINES
+        cd ..
+        ask 0 rounds --unison ./.unison/../.unison/ <<LINES
+rounds 1
+at least 1
+round 1 docs
+$assumed
+$lies ./.unison/../.unison/docs.prf: $own: add ignore = Path .unison
+LINES
+    )
+    put archives/home/more/photos.prf 'root = /srv/hub' 'root = /srv/photos'
+    ask 0 check --unison archives/home/more <<LINES
+safe
+$assumed
+LINES
+    local each
+    for each in 'ignore = Path .unison' 'ignore = Name .unison' 'path = docs' $'ignore = BelowPath .unison\r'; do
+        put archives/home/.unison/docs.prf "root = $here/archives/home" 'root = /srv/docs' "$each"
+        ask 0 check --unison --strict archives/home/.unison <<LINES
+safe
+$assumed
+LINES
+    done
+    ask 0 check --unison archives/home/.unison archives/home/more <<LINES
+safe
+$assumed
+hubsync: note: $here/archives/home/more lies in $here/archives/home, a root of archives/home/.unison/docs.prf: $own: add ignore = Path more
+LINES
+    put archives/table "desk $here/archives"
+    put archives/home/.unison/docs.prf 'root = ssh://desk//home' 'root = /srv/docs'
+    ask 0 check --unison --strict archives/home/.unison --hosts archives/table <<LINES
+safe
+$assumed
+LINES
+    put archives/home/.unison/docs.prf "root = $here/archives/home/.unison" 'root = /srv/docs' 'ignore = Name *'
+    ask 0 check --unison archives/home/.unison <<LINES
+safe
+$assumed
+hubsync: note: $here/archives/home/.unison is a root of archives/home/.unison/docs.prf: $own
 LINES
 }
 
@@ -643,6 +869,9 @@ mkdir "$room/tree"
 cd "$room/tree"
 try_forms
 try_parts
+try_rootless
+try_long
+try_included_often
 try_missing
 try_lines
 try_unreadable
@@ -650,6 +879,7 @@ try_texts
 try_many
 try_verbose
 try_hosts
+try_archives
 try_operands
 try_whole
 try_each

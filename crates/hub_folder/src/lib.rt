@@ -6,7 +6,7 @@
 //! - [`profiles_in`]: the profiles of a folder. Files that have no root, or that another profile includes, are none.
 //!
 //! ```rust
-//! let profiles = match profiles_named(alloc, reader, files.profiles.as_slice()) {
+//! let taken = match profiles_named(alloc, reader, files.profiles.as_slice()) {
 //! ```
 //!
 //! From `hubsync/src/files.rt`.

@@ -1,16 +1,21 @@
 -- What is known of the files that were read.
-use Rattle.std.proofs.Common.{◌≡◌, ◌<◌, ℕ, List, get_or, length, map, Result, Ok, Err, IfErr, IsErrAnd, subst, sym}
+use Rattle.std.proofs.Common.{◌≡◌, ◌∙◌, ◌<◌, ◌++◌, ℕ, List, [], ◌∷◌, Option, get_or, length, map, Result, Ok, Err, IfErr, IsErrAnd, ap, refl, subst, sym}
 use Rattle.std.proofs.lemmas.List.{get_or-map, length-map}
-use Rattle.std.proofs.lemmas.List.Elements.{Contains-append_right, Contains-get_or}
-use Rattle.std.specs.List.{Contains}
+use Rattle.std.proofs.lemmas.List.Elements.{All-cons, All-head, All-nil, All-tail, Contains-append_right, Contains-get_or}
+use Rattle.std.specs.List.{All, Contains}
 use Rattle.hub_cli.specs.Words.{Names}
 use Rattle.hub_folder.specs.Reading.{Reads}
+use Rattle.hub_bundle.specs.declared.part.Kind.{Kind}
 use Rattle.hub_bundle.specs.declared.part.Kind.TheVariants.{Profile}
-use Rattle.hub_folder.specs.Operands.{File}
+use Rattle.hub_folder.specs.Operands.{AreNamed, File}
+use Rattle.hub_folder.specs.Told.{path_and_text}
+use Rattle.hub_folder.specs.declared.folder.FolderProfile.{FolderProfile}
+use Rattle.hub_hosts.specs.Table.{Row}
 use Rattle.hub_hosts.specs.declared.fault.HostsFault.{HostsFault}
 use denote.Ref.{Bor}
-use Rattle.hubsync.specs.Bundled.{AreSections, Disk, Label, Sources, labels, option_labels}
-use Rattle.hubsync.specs.Named.{IsUnreadFile, IsUnreadOf, IsUnserved}
+use Rattle.hubsync.specs.Bundled.{AreSections, AreTaken, Disk, HasContents, IsTable, Label, Sources, for_hosts, for_section, labels, option_labels}
+use Rattle.hubsync.specs.Named.{HaveLabels, HaveTexts, IsUnreadFile, IsUnreadOf, IsUnserved, bytes_held, label_held}
+use Rattle.hubsync.specs.declared.files.Held.{Held}
 use Rattle.hubsync.specs.declared.files.Unserved.{Unserved}
 use Rattle.hubsync.specs.declared.files.Unserved.TheVariants as unserved_as
 
@@ -60,3 +65,38 @@ Contains-map_at f xs i d lt =
 pub passed_up : {T E : Type 0} (r : Result T E) (e : E) (P : E → Type 0) → IsErrAnd r (λ y. y ≡ e) → P e → IfErr r P
 passed_up (Ok x) e P is p = tt
 passed_up (Err y) e P is p = subst P (sym is) p
+
+map-map : {X Y Z : Type 0} (f : Y → Z) (g : X → Y) (xs : List X) → map f (map g xs) ≡ map (λ x. f (g x)) xs
+map-map f g [] = refl
+map-map f g (x ∷ xs) = ap (λ ys. f (g x) ∷ ys) (map-map f g xs)
+
+-- The section of a file that was read, and what it has.
+abbrev section_held : Held → Kind × File
+section_held h = (h.kind, bytes_held h)
+
+have-bytes : (reads : Reads) (others : List Held) → All (HasContents reads) (map bytes_held others)
+    → All (λ o. HasContents reads o.1) (map section_held others)
+have-bytes reads [] all = All-nil (λ (o : Kind × File). HasContents reads o.1)
+have-bytes reads (h ∷ hs) all =
+    All-cons (λ (o : Kind × File). HasContents reads o.1) (section_held h) (map section_held hs)
+    (All-head (HasContents reads) (bytes_held h) (map bytes_held hs) all)
+    (have-bytes reads hs (All-tail (HasContents reads) (bytes_held h) (map bytes_held hs) all))
+
+-- What is held has the sections of the profiles, and of the others with paths in place of the roots of hosts in rules.
+pub hold_taken : (disk : Disk) (names : Names) (profiles : List FolderProfile) (table : Option (List Row)) (others held : List Held)
+    → AreNamed disk.reads disk.lists names.profiles (map path_and_text profiles) → IsTable disk.reads names.hosts table
+    → map label_held others ≡ option_labels names → All (HasContents disk.reads) (map bytes_held others)
+    → HaveLabels profiles others held → HaveTexts table profiles others held
+    → AreTaken disk names (map label_held held) (map bytes_held held)
+hold_taken disk names profiles table others held named is_table labels bytes are_labels are_texts = record {
+  profiles = map path_and_text profiles;
+  named = named;
+  table = table;
+  is_table = is_table;
+  others = map section_held others;
+  others_are = map-map (λ o. (o.0, o.1.0)) section_held others ∙ labels;
+  bytes_are = have-bytes disk.reads others bytes;
+  labels_are = are_labels ∙ ap (λ ls. map (λ file. (Profile, file.0)) (map path_and_text profiles) ++ ls) labels;
+  files_are = are_texts
+      ∙ ap (λ fs. map (for_hosts table) (map path_and_text profiles) ++ fs) (sym (map-map (λ o. for_section table o.0 o.1) section_held others));
+}

@@ -56,6 +56,7 @@ untaken_path (untaken.Gone path) = string_bytes path
 untaken_path (untaken.Folder path fault) = string_bytes path
 untaken_path (untaken.Line place fault) = string_bytes place ++ fault.file
 untaken_path (untaken.TooManyFiles path) = string_bytes path
+untaken_path (untaken.TooLong path) = string_bytes path
 untaken_path untaken.OutOfMemory = []
 
 abbrev pub untaken_word : Untaken → List ℕ
@@ -64,6 +65,7 @@ untaken_word (untaken.Gone path) = codes "ReadFailed"
 untaken_word (untaken.Folder path fault) = fault_word fault
 untaken_word (untaken.Line place fault) = why_word fault.why
 untaken_word (untaken.TooManyFiles path) = codes "TooManyFiles"
+untaken_word (untaken.TooLong path) = codes "TooLong"
 untaken_word untaken.OutOfMemory = []
 
 -- Why a profile can't be told was written, or that memory is out.
@@ -199,18 +201,27 @@ host_text (Some rows) text = text_for rows text
 abbrev pub for_hosts : Option (List Row) → File → File
 for_hosts table file = (file.0, host_text table file.1)
 
+-- The same of a section: in a state and in certificates no root is replaced.
+abbrev pub for_section : Option (List Row) → Kind → File → File
+for_section table Profile file = for_hosts table file
+for_section table Rules file = for_hosts table file
+for_section table State file = file
+for_section table Certificates file = file
+
 -- The sections are those of the profiles that the operands name for Unison, with the lines that they
 -- include and with paths in place of the roots of hosts, and of the other files that are named, with
--- their bytes.
+-- their bytes, but for the roots of hosts in rules.
 pub record AreTaken (disk : Disk) (names : Names) (ls : List Label) (files : List File) : Type 0 where
   pub profiles : List File
   pub named : AreNamed disk.reads disk.lists names.profiles profiles
   pub table : Option (List Row)
   pub is_table : IsTable disk.reads names.hosts table
-  pub others : List File
-  pub bytes_are : All (HasContents disk.reads) others
+  pub others : List (Kind × File)
+  pub others_are : map (λ o. (o.0, o.1.0)) others ≡ option_labels names
+  pub bytes_are : All (λ o. HasContents disk.reads o.1) others
   pub labels_are : ls ≡ map (λ file. (Profile, file.0)) profiles ++ option_labels names
-  pub files_are : files ≡ map (for_hosts table) profiles ++ others
+  pub files_are : files
+      ≡ map (for_hosts table) profiles ++ map (λ o. for_section table o.0 o.1) others
 
 pub record AreSections (disk : Disk) (sources : Sources) (ls : List Label) (files : List File) : Type 0 where
   pub plain : sources.is_for_unison ≡ false → AreRead disk.reads sources.names ls files

@@ -14,7 +14,7 @@ use Rattle.hubsync.specs.declared.files.Held.{Held}
 use Rattle.hubsync.specs.declared.files.Named.{Named}
 use Rattle.hubsync.specs.declared.files.Unserved.{Unserved}
 use Rattle.hubsync.specs.declared.files.Unserved.TheVariants.{BadHosts, File, Hosts, OutOfMemory, Untaken}
-use Rattle.hubsync.specs.Bundled.{AreRead, AreSections, AreTaken, Disk, Label, Sources, disk_of, for_hosts, labels}
+use Rattle.hubsync.specs.Bundled.{AreRead, AreSections, AreTaken, Disk, Label, Sources, disk_of, for_hosts, for_section, labels}
 
 abbrev pub label_named : Named → Label
 label_named n = (n.kind, n.file.now)
@@ -25,6 +25,10 @@ label_held h = (h.kind, string_bytes h.file)
 -- The path of a file that was read, and its bytes.
 abbrev pub bytes_held : Held → List ℕ × List ℕ
 bytes_held h = (string_bytes h.file, h.bytes.items)
+
+-- The same with paths in place of the roots of hosts.
+abbrev pub bytes_for : Option (List Row) → Held → List ℕ × List ℕ
+bytes_for table h = for_section table h.kind (bytes_held h)
 
 -- What is held has the sections of files, as `AreRead`, `AreTaken` and `AreSections` say.
 abbrev pub HoldRead : Reads → Names → List Held → Type 0
@@ -49,7 +53,7 @@ HaveLabels profiles others held =
 abbrev pub HaveTexts : Option (List Row) → List FolderProfile → List Held → List Held → Type 0
 HaveTexts table profiles others held =
     map bytes_held held
-    ≡ map (for_hosts table) (map path_and_text profiles) ++ map bytes_held others
+    ≡ map (for_hosts table) (map path_and_text profiles) ++ map (bytes_for table) others
 
 -- These labels are added to those of the files that are named.
 abbrev pub AddsLabels : List Named → List Named → List Label → Type 0

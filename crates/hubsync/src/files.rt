@@ -4,20 +4,22 @@ ghost use Rattle.std.specs.List.{All};
 ghost use Rattle.hub_cli.specs.Words.{names_of};
 ghost use Rattle.hub_bundle.specs.declared.part.Kind.TheVariants.{Profile};
 ghost use Rattle.hub_folder.specs.Told.{path_and_text};
-ghost use Rattle.hubsync.specs.Bundled.{HasContents, IsTable, bytes_of, for_hosts, label_if, label_of, labels, option_labels, profile_labels, disk_of};
+ghost use Rattle.hubsync.specs.Bundled.{HasContents, IsTable, bytes_of, for_hosts, host_text, label_if, label_of, labels, option_labels, profile_labels, disk_of};
 ghost use Rattle.hubsync.specs.Named.{AddsLabels, HaveLabels, HaveTexts, HoldRead, HoldSections, HoldTaken};
-ghost use Rattle.hubsync.specs.Named.{IsUnreadFile, IsUnreadOf, IsUnserved, OfHosts, bytes_held, label_held, label_named, sources_in, table_in, text_in};
+ghost use Rattle.hubsync.specs.Named.{IsUnreadFile, IsUnreadOf, IsUnserved, OfHosts, bytes_for, bytes_held, label_held, label_named, sources_in, table_in, text_in};
 ghost use Rattle.hubsync.specs.Written.{ServesFilesTo, WritesNothing};
 
+use crate::archives::say_archives;
 use crate::bundled::{serve_parts, write_memory};
 use crate::captured::Captured;
+use crate::left_out::say_left_out;
 use crate::served::{Answered, Capture};
+use crate::sources::{HeldRoot, roots_in, source_files, written_roots};
 use crate::untaken::{write_bad_hosts, write_unread, write_untaken};
 use hub_bundle::{Kind, Part};
 use hub_cli::{Files, Options};
 use hub_folder::{FileReader, FolderProfile, Origins, ReadFault, Unread, profiles_named};
 use hub_hosts::{Hosts, HostsFault};
-use hub_source::{LineOrigin, SourceFile};
 use hub_text::Watched;
 use std::alloc::{AllocError, Global};
 use std::io::{Eprint, Write};
@@ -34,14 +36,27 @@ struct Named<'a> {
 
 /// A file that was read, and the section that it is for.
 #[derive(Drop)]
-struct Held {
-    kind: Kind,
-    file: String,
-    bytes: Vec<u8>,
+pub struct Held {
+    /// The section.
+    pub kind: Kind,
+    /// Its path.
+    pub file: String,
+    /// Its bytes.
+    pub bytes: Vec<u8>,
     /// Where its lines come from, if not all of them are the file's own.
-    origins: Option<Origins>,
+    pub origins: Option<Origins>,
     /// The paths of the files that are no profiles since it includes them.
-    left_out: Vec<String>,
+    pub left_out: Vec<String>,
+    /// Its roots that have a path in their place.
+    pub roots: Vec<HeldRoot>,
+}
+
+/// The files that were read.
+#[derive(Drop)]
+struct Sections {
+    held: Vec<Held>,
+    /// The paths of the files of folders that are no profiles since they set no root.
+    rootless: Vec<String>,
 }
 
 /// Why nothing is answered over the files.
@@ -129,9 +144,10 @@ fn serve_named<
     ensures silent { IfErr result (λ _. WritesNothing output.old output.new W.contents) }
 {
     let alloc = rt.alloc();
-    let held = read_sections(alloc, reader, options)?;
+    let Sections { held, rootless } = read_sections(alloc, reader, options)?;
     let parts = parts_of(alloc, held.as_slice())?;
-    let files = source_files(alloc, held.as_slice())?;
+    let roots = written_roots(alloc, held.as_slice())?;
+    let files = source_files(alloc, held.as_slice(), roots.as_slice())?;
     let answered = serve_parts(
         rt,
         words,
@@ -140,30 +156,25 @@ fn serve_named<
         output,
         capture,
     );
-    let has_left_out = say_left_out(rt, held.as_slice());
+    let misleads = say_notes(rt, capture, held.as_slice(), rootless.as_slice());
     Ok(Answered {
         status: answered.status,
-        may_mislead: answered.may_mislead || has_left_out,
+        may_mislead: answered.may_mislead || misleads,
     })
 }
 
-/// Says which files are no profiles since another one includes them, and returns whether there are such: they may be run, too.
-fn say_left_out<T: Eprint>(rt: &T, held: &[Held]) -> bool {
-    let mut has_left_out = false;
-    for one in held {
-        say_left_out_by(rt, one);
-        has_left_out = has_left_out || !one.left_out.is_empty();
-    }
-    has_left_out
-}
-
-/// Says which files are no profiles since this one includes them. If that fails, there is nobody left to tell.
-fn say_left_out_by<T: Eprint>(rt: &T, one: &Held) {
-    let file = one.file.as_str();
-    for path in one.left_out.iter() {
-        let _ = eprintln!(rt;
-            "hubsync: note: {path} is no profile here, since {file} includes it: name both files to ask about both"
-        );
+/// Says what is to be said of files below an answer, and returns whether a yes may mislead. It also may where memory is out.
+fn say_notes<T: AllocGlobal + Eprint>(
+    rt: &T,
+    capture: &Capture,
+    held: &[Held],
+    rootless: &[String],
+) -> bool {
+    let has_left_out = say_left_out(rt, held, rootless);
+    let here = capture.here.as_ref().map(|path| path.as_str());
+    match say_archives(rt, here, held) {
+        Ok(has_archives) => has_left_out || has_archives,
+        Err(AllocError) => true,
     }
 }
 
@@ -172,9 +183,9 @@ fn read_sections<'a, F: FileReader>(
     alloc: Global,
     reader: &F,
     options: &Options<'a>,
-) -> Result<Vec<Held>, Unserved<'a>>
+) -> Result<Sections, Unserved<'a>>
     ensures ok { IfOk result (λ v. HoldSections F.reads F.lists reader.now
-        (sources_in options.now) v.items) }
+        (sources_in options.now) v.held.items) }
     ensures err { IfErr result (IsUnserved (disk_of F.reads F.lists reader.now)
         (names_of options.now.files)) }
 {
@@ -190,31 +201,35 @@ fn read_plainly<'a, F: FileReader>(
     alloc: Global,
     reader: &F,
     files: &Files<'a>,
-) -> Result<Vec<Held>, Unserved<'a>>
-    ensures ok { IfOk result (λ v. HoldRead (F.reads reader.now) (names_of files.now) v.items) }
+) -> Result<Sections, Unserved<'a>>
+    ensures ok { IfOk result (λ v. HoldRead (F.reads reader.now) (names_of files.now) v.held.items) }
     ensures err { IfErr result (IsUnserved (disk_of F.reads F.lists reader.now)
         (names_of files.now)) }
 {
     let named = named_files(alloc, files)?;
     match read_all(alloc, reader, named.as_slice()) {
-        Ok(held) => Ok(held),
+        Ok(held) => Ok(Sections {
+            held,
+            rootless: Vec::new(alloc),
+        }),
         Err(fault) => Err(fault),
     }
 }
 
 /// Reads the files, and the profiles that the operands name for Unison.
+#[tactic(auto, using(crate::proofs::FilesFacts::hold_taken))]
 fn read_for_unison<'a, F: FileReader>(
     alloc: Global,
     reader: &F,
     files: &Files<'a>,
-) -> Result<Vec<Held>, Unserved<'a>>
+) -> Result<Sections, Unserved<'a>>
     ensures ok { IfOk result (λ v. HoldTaken F.reads F.lists reader.now (names_of files.now)
-        v.items) }
+        v.held.items) }
     ensures err { IfErr result (IsUnserved (disk_of F.reads F.lists reader.now)
         (names_of files.now)) }
 {
-    let profiles = match profiles_named(alloc, reader, files.profiles.as_slice()) {
-        Ok(profiles) => profiles,
+    let taken = match profiles_named(alloc, reader, files.profiles.as_slice()) {
+        Ok(taken) => taken,
         Err(fault) => return Err(Unserved::Untaken(fault)),
     };
     let hosts = match read_hosts(alloc, reader, files.hosts) {
@@ -223,7 +238,10 @@ fn read_for_unison<'a, F: FileReader>(
     };
     let named = option_files(alloc, files, Vec::new(alloc))?;
     match read_all(alloc, reader, named.as_slice()) {
-        Ok(others) => Ok(with_profiles(alloc, profiles, hosts.as_ref(), others)?),
+        Ok(others) => Ok(Sections {
+            held: with_profiles(alloc, taken.profiles, hosts.as_ref(), others)?,
+            rootless: taken.rootless,
+        }),
         Err(fault) => Err(fault),
     }
 }
@@ -267,7 +285,7 @@ fn with_profiles(
     for profile in profiles {
         held.push(held_profile(alloc, profile, hosts)?)?;
     }
-    push_held(&mut held, others)?;
+    push_others(alloc, &mut held, others, hosts)?;
     Ok(held)
 }
 
@@ -287,27 +305,70 @@ fn held_profile(
         origins,
         left_out,
     } = profile;
-    let bytes = match hosts {
-        Some(hosts) => hosts.text_for(alloc, text.as_slice())?,
-        None => text,
-    };
+    let roots = roots_in(alloc, text.as_slice(), hosts)?;
     Ok(Held {
         kind: Kind::Profile,
         file: path,
-        bytes,
+        bytes: for_hosts(alloc, text, hosts)?,
         origins: Some(origins),
         left_out,
+        roots,
     })
 }
 
-/// Adds these files.
-fn push_held(held: &mut Vec<Held>, others: Vec<Held>) -> Result<(), AllocError>
-    ensures { OnOk result (held.new.items ≡ held.old.items ++ others.items) }
+/// A text with paths in place of the roots of hosts.
+fn for_hosts(alloc: Global, text: Vec<u8>, hosts: Option<&Hosts>) -> Result<Vec<u8>, AllocError>
+    ensures { IfOk result (λ v. v.items ≡ host_text (table_in hosts.entry) text.items) }
+{
+    match hosts {
+        Some(hosts) => hosts.text_for(alloc, text.as_slice()),
+        None => Ok(text),
+    }
+}
+
+/// Adds these files, with paths in place of the roots of hosts in rules.
+fn push_others(
+    alloc: Global,
+    held: &mut Vec<Held>,
+    others: Vec<Held>,
+    hosts: Option<&Hosts>,
+) -> Result<(), AllocError>
+    ensures labels { OnOk result (map label_held held.new.items
+        ≡ map label_held held.old.items ++ map label_held others.items) }
+    ensures bytes { OnOk result (map bytes_held held.new.items
+        ≡ map bytes_held held.old.items ++ map (bytes_for (table_in hosts.entry)) others.items) }
 {
     for other in others {
-        held.push(other)?;
+        held.push(held_other(alloc, other, hosts)?)?;
     }
     Ok(())
+}
+
+/// A file of an option, with paths in place of the roots of hosts if it has rules.
+fn held_other(alloc: Global, other: Held, hosts: Option<&Hosts>) -> Result<Held, AllocError>
+    ensures label { IfOk result (λ h. label_held h ≡ label_held other) }
+    ensures bytes { IfOk result (λ h. bytes_held h ≡ bytes_for (table_in hosts.entry) other) }
+{
+    let Held {
+        kind,
+        file,
+        bytes,
+        origins,
+        left_out,
+        roots,
+    } = other;
+    let bytes = match kind {
+        Kind::Profile | Kind::Rules => for_hosts(alloc, bytes, hosts)?,
+        Kind::State | Kind::Certificates => bytes,
+    };
+    Ok(Held {
+        kind,
+        file,
+        bytes,
+        origins,
+        left_out,
+        roots,
+    })
 }
 
 /// The files in the order of their sections: the profiles, the rules, the state, the certificates.
@@ -402,6 +463,7 @@ fn read_one<'a, F: FileReader>(
             bytes,
             origins: None,
             left_out: Vec::new(alloc),
+            roots: Vec::new(alloc),
         }),
         Err(Unread::File(fault)) => Err(Unserved::File(file, fault)),
         Err(Unread::OutOfMemory) => Err(Unserved::OutOfMemory),
@@ -422,36 +484,4 @@ fn parts_of<'a>(alloc: Global, held: &'a [Held]) -> Result<Vec<Part<'a>>, AllocE
         })?;
     }
     Ok(parts)
-}
-
-/// Where each of these lines comes from.
-fn line_origins<'a>(
-    alloc: Global,
-    origins: &'a Origins,
-) -> Result<Vec<LineOrigin<'a>>, AllocError> {
-    let mut lines = Vec::new(alloc);
-    for at in 0..origins.len() {
-        if let Some((path, number)) = origins.line(at) {
-            lines.push(LineOrigin { path, number })?;
-        }
-    }
-    Ok(lines)
-}
-
-/// The files, as remarks name their lines.
-fn source_files<'a>(alloc: Global, held: &'a [Held]) -> Result<Vec<SourceFile<'a>>, AllocError> {
-    let mut files = Vec::new(alloc);
-    for one in held {
-        let path = one.file.as_str();
-        let origins = match &one.origins {
-            Some(origins) => line_origins(alloc, origins)?,
-            None => Vec::new(alloc),
-        };
-        files.push(SourceFile {
-            path,
-            origins,
-            roots: &[],
-        })?;
-    }
-    Ok(files)
 }

@@ -8,11 +8,14 @@
 //! that the words name (`files` reads them, `untaken` says what is wrong with one, and `bundled` answers over them).
 #![tactic(auto)]
 
+mod archives;
 mod bundled;
 mod captured;
 mod files;
+mod left_out;
 mod reader;
 mod served;
+mod sources;
 mod terminal;
 mod untaken;
 
@@ -40,7 +43,7 @@ use std::time::Clock;
 use std::{env, io};
 
 fn main(rt: HostRuntime) -> ExitCode {
-    let capture = Capture::new(rt.alloc(), rt.stderr().is_terminal());
+    let capture = Capture::new(rt.alloc(), rt.stderr().is_terminal(), current_folder(&rt));
     let mut input = Watched::new(Captured::new(rt.reader(), &capture.input));
     let mut output = Watched::new(Captured::new(io::writer(&rt), &capture.output));
     let is_terminal = rt.stdin().is_terminal();
@@ -53,6 +56,13 @@ fn main(rt: HostRuntime) -> ExitCode {
         &mut output,
         &capture,
     )
+}
+
+/// The path of the current folder, if the system tells it.
+fn current_folder<R: AllocGlobal + Env>(rt: &R) -> Option<String> {
+    let folder = env::current_dir(rt).ok()?;
+    let path = folder.as_path().to_str()?;
+    String::from_str(rt.alloc(), path).ok()
 }
 
 /// The words that the process was started with, of which the first is the program's name.

@@ -9,6 +9,7 @@ use crate::captured::Captured;
 use hub_folder::{ReadFault, Untaken};
 use hub_hosts::HostsFault;
 use hub_include::{LineFault, Why};
+use hub_source::shown;
 use hub_text::Watched;
 use std::alloc::{AllocError, Global};
 use std::io;
@@ -55,6 +56,7 @@ pub fn write_untaken<T: AllocGlobal + Eprint, W: Write>(
         Untaken::TooManyFiles(path) => {
             write_fault(rt.alloc(), path.as_bytes(), "TooManyFiles", output)
         }
+        Untaken::TooLong(path) => write_too_long(rt, path.as_str(), output),
         Untaken::Line(place, fault) => write_bad_line(rt, place, fault, output),
         Untaken::OutOfMemory => write_memory(output),
     }
@@ -72,6 +74,22 @@ fn write_gone<T: AllocGlobal + Eprint, W: Write>(
     let status = write_fault(rt.alloc(), file.as_bytes(), "ReadFailed", output);
     let _ = eprintln!(rt;
         "hubsync: {file} is in the folder, but there is no such file: is it a link?"
+    );
+    status
+}
+
+/// Says that the texts of profiles are too long, with that of this file.
+fn write_too_long<T: AllocGlobal + Eprint, W: Write>(
+    rt: &T,
+    file: &str,
+    output: &mut Watched<Captured<'_, W>>,
+) -> u8
+    requires { output.old.failed ≡ false }
+    ensures { ReportsFault output.old output.new W.contents file.now (codes "TooLong") result }
+{
+    let status = write_fault(rt.alloc(), file.as_bytes(), "TooLong", output);
+    let _ = eprintln!(rt;
+        "hubsync: with {file} the profiles have more than 16 MiB, included lines each time"
     );
     status
 }
@@ -116,7 +134,7 @@ fn write_bad_line<T: AllocGlobal + Eprint, W: Write>(
     match path_below(rt.alloc(), place.as_str(), fault.file.as_slice()) {
         Ok(path) => {
             let status = write_fault(rt.alloc(), path.as_slice(), word_of(fault.why), output);
-            say_bad_line(rt, path.as_slice(), &fault);
+            let _ = say_bad_line(rt, path.as_slice(), &fault);
             status
         }
         Err(_) => write_memory(output),
@@ -146,17 +164,28 @@ fn word_of(why: Why) -> &'static str
 }
 
 /// Says the same on standard error, and what to do. If that fails too, there is nobody left to tell.
-fn say_bad_line<T: Eprint>(rt: &T, path: &[u8], fault: &LineFault) {
+fn say_bad_line<T: AllocGlobal + Eprint>(
+    rt: &T,
+    path: &[u8],
+    fault: &LineFault,
+) -> Result<(), AllocError> {
     let path = str::from_utf8(path).unwrap_or("");
     let number = fault.number;
     let what = match fault.why {
         Why::BadLine => "takes one file's name, with \\ before each blank in it",
-        Why::NoFile => "names a file that isn't in the profile's folder",
+        Why::NoFile => "names a file that isn't in the profile's folder: ",
         Why::Cycle => "includes a file that includes this one: Unison's stack overflows",
         Why::TooDeep => "stands in too many files that include each other: 100 may be open",
         Why::TooLong => "makes a profile of more than 100,000 lines",
     };
-    let _ = eprintln!(rt; "hubsync: {path}, line {number} {what}");
+    let text = if fault.why == Why::NoFile {
+        shown(rt.alloc(), fault.text.as_slice())?
+    } else {
+        String::new(rt.alloc())
+    };
+    let text = text.as_str();
+    let _ = eprintln!(rt; "hubsync: {path}, line {number} {what}{text}");
+    Ok(())
 }
 
 /// Says on standard error that a file can't be read.

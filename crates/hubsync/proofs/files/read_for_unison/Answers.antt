@@ -1,8 +1,10 @@
-use Rattle.std.proofs.Common.{◌∙◌, ◌++◌, map, ap, refl}
+use Rattle.std.proofs.Common.{◌∙◌, ◌++◌, map, ap, refl, subst}
 use Rattle.hub_cli.specs.Words.{names_of}
 use Rattle.hubsync.specs.Bundled.{Disk, option_labels}
-use Rattle.hubsync.specs.Named.{label_named}
-use Rattle.hubsync.proofs.FilesFacts.{option-unserved}
+use Rattle.hub_folder.specs.Operands.{AreNamed}
+use Rattle.hub_folder.specs.Told.{path_and_text, texts_in}
+use Rattle.hubsync.specs.Named.{HaveTexts, label_named}
+use Rattle.hubsync.proofs.FilesFacts.{hold_taken, option-unserved}
 use Rattle.hubsync.proofs.files.read_for_unison.Goals as goal
 
 pub returns-in-Err-read_hosts-clause-err : goal.returns-in-Err-read_hosts-clause-err
@@ -15,3 +17,19 @@ returns-clause-err g c =
     option-unserved disk names (map label_named c.as_slice-2.result.now) c.in-Err-read_all.fault
     (ap (map label_named) c.as_slice-2.ensures.value ∙ c.in_ok-named.ensures ∙ ap (λ ns. map label_named ns ++ option_labels names) c.new.ensures.items)
     c.in-Err-read_all.ensures.err
+
+pub returns-in-Ok-read_all-clause-ok : goal.returns-in-Ok-read_all-clause-ok
+returns-in-Ok-read_all-clause-ok g c =
+    let names = names_of c.args.files.now in
+    let disk : Disk = record { reads = g.F.FileReader.reads c.args.reader.now; lists = g.F.FileReader.lists c.args.reader.now } in
+    let profiles = c.in-Ok.taken.profiles.items in
+    let others = c.in-Ok-read_all.others.items in
+    let held = c.in_ok-with_profiles-in-Ok-read_all.field-0.items in
+    let labels_are = ap (map label_named) c.as_slice-2.ensures.value ∙ c.in_ok-named.ensures ∙ ap (λ ns. map label_named ns ++ option_labels names) c.new.ensures.items in
+    hold_taken disk names profiles c.in-Ok-read_hosts.hosts others held
+    (subst (λ fs. AreNamed disk.reads disk.lists (texts_in fs) (map path_and_text profiles)) c.as_slice.ensures.value c.in-Ok.ensures.ok)
+    c.in-Ok-read_hosts.ensures.ok
+    (c.in-Ok-read_all.ensures.labels ∙ labels_are)
+    c.in-Ok-read_all.ensures.bytes
+    c.in_ok-with_profiles-in-Ok-read_all.ensures.labels
+    (subst (λ t. HaveTexts t profiles others held) c.as_ref.ensures.value c.in_ok-with_profiles-in-Ok-read_all.ensures.bytes)

@@ -294,6 +294,8 @@ fn ignores(alloc: Global, pattern: &str, names: &[&str]) -> Result<bool, AllocEr
 
 /// Returns whether each character of a path or a pattern stands for itself, and no name is `.` or `..`.
 fn is_plain(text: &str) -> bool {
-    !text.chars().any(|c| matches!(c, '*' | '?' | '[' | ']' | '{' | '}' | ',' | '\\' | '"' | '>'))
-        && !text.split('/').any(|name| name == "." || name == "..")
+    !text.chars().any(|c| matches!(
+        c,
+        '*' | '?' | '[' | ']' | '{' | '}' | ',' | '\\' | '"' | '>'
+    )) && !text.split('/').any(|name| name == "." || name == "..")
 }

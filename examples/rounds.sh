@@ -254,6 +254,10 @@ nothing is started: mend these lines, or name behind the folder the profiles tha
 LINES
     sed -i '/follow/d; /batch/d; /older/d' prf/common
     ask 3 --unison ./unison prf
+    sed -i '/logfile/d; $a backupprefix = $VERSION.' prf/common
+    ask 0 --only-check prf
+    sed -i '$a backupsuffix = /../x' prf/common
+    ask 3 --only-check prf
     ask 3 --unison ./none prf home
     ask 3 --unison "$(command -v true)" prf home
     ask 3 nope

@@ -201,6 +201,7 @@ sub is_dispensable {
     my ($profile, $line) = @_;
     my ($name, $value) = @$line{qw(name value)};
     return is_outside($value, @{ $profile->{all_roots} }) if $name eq 'backupdir';    # on each machine it has the backups of its root
+    return $value !~ m{[/\\:]} if $name =~ /\A(?:addprefsto|backupprefix|backupsuffix)\z/;    # such a name may lead elsewhere
     return 1 if $is_left_out{$name};
     return 1 if $is_left_out_as{$name}{$value};
     return 0 if $value !~ /\A(?:newer|older)\z/;

@@ -142,13 +142,23 @@ fn remarks_on<T: AllocGlobal + Clock + Eprint + Threads + Wait + Sync>(
     let asked = what_to_ask(rt.alloc(), words, files, input, told)?;
     let mend = reply_on_mend(rt, &asked)?;
     let check = reply_on_check(rt, &asked, input.bytes)?;
-    let answers = Answers {
-        mend: mend.as_ref(),
-        check: check.as_ref(),
-        output: output.first_bytes()?.bytes,
-    };
+    let output = output.first_bytes()?;
+    let answers = answers_of(&mend, &check, output.bytes);
     let remarks = remark(rt.alloc(), words, files, input, told, answers)?;
     Ok(remarks)
+}
+
+/// What was answered to each question that was asked, and the first bytes of the answer.
+fn answers_of<'a>(
+    mend: &'a Option<Reply>,
+    check: &'a Option<Reply>,
+    output: &'a [u8],
+) -> Answers<'a> {
+    Answers {
+        mend: mend.as_ref(),
+        check: check.as_ref(),
+        output,
+    }
 }
 
 /// What hubsync answers about the profiles of a clash, if that is asked.

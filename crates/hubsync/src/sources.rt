@@ -89,10 +89,10 @@ fn written_in<'a>(
 }
 
 /// The files, as remarks name their lines and roots.
-pub fn source_files<'a>(
+pub fn source_files<'a, 'h: 'a>(
     alloc: Global,
-    held: &'a [Held],
-    roots: &'a [Vec<WrittenRoot<'a>>],
+    held: &'h [Held],
+    roots: &'a [Vec<WrittenRoot<'h>>],
 ) -> Result<Vec<SourceFile<'a>>, AllocError> {
     let mut files = Vec::new(alloc);
     for (one, roots) in held.iter().zip(roots.iter()) {

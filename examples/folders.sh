@@ -611,17 +611,18 @@ hubsync:     desk~ /hosts/desk/home/NAME
 hubsync: behind HOST~ stands the home there: write where it is, if it is elsewhere
 LINES
     put remote/names/docs.prf 'root = /srv/hub' 'root = ssh://Desk//srv/docs' 'path = docs'
-    put remote/names/old.prf 'root = /srv/hub' 'root = socket://bob@dESK:4000//srv/docs/' 'path = docs/old'
+    put remote/names/old.prf 'root = /srv/hub' 'root = socket://bob@dESK:4000//srv/docs/' 'path = old'
     ask 1 check --unison remote/names --hosts remote/table <<LINES
-overlap: docs writes docs at /srv/hub, old reaches docs/old
+same archive: docs and old have the roots /srv/hub and /hosts/other/srv/docs
+hubsync: run one after the other: Unison has one archive for both, and two runs at once bring deleted files back
 LINES
-    put remote/names/old.prf 'root = //srv/hub' 'root = ssh://desk//srv/docs' 'path = docs/old'
+    put remote/names/old.prf 'root = //srv/hub' 'root = ssh://desk//srv/docs' 'path = old'
     ask 2 check --unison remote/names --hosts remote/table <<LINES
 fault: profile old line 1: BadPath RemoteRoot
 hubsync: remote/names/old.prf line 1: root = //srv/hub
 hubsync: to Unison it is a path of this machine: write /srv/hub
 LINES
-    put remote/names/old.prf 'root = file:///srv/hub' 'root = ssh://desk//srv/docs' 'path = docs/old'
+    put remote/names/old.prf 'root = file:///srv/hub' 'root = ssh://desk//srv/docs' 'path = old'
     ask 2 check --unison remote/names --hosts remote/table <<LINES
 fault: profile old line 1: BadPath RemoteRoot
 hubsync: remote/names/old.prf line 1: root = file:///srv/hub

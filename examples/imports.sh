@@ -5,10 +5,10 @@
 #
 # PROGRAM is the built program (crates/hubsync/out/hubsync if left out). Asked about are the inputs of answers/unison.txt and
 # answers/imports.txt, the profiles of office/ and manual/, each by itself and all of a folder, also with rules, and profiles at random.
-# `check`, `clashes` and `rounds` of what was imported answer as the same command with `--unison` does, with the same status; where two
-# profiles share an archive, which the plain answers don't ask about, they are asked with `--unison` too. So does `verify` of certificates
-# for it, if it is safe. A fault is the same. What is imported again has the same answer, and if it ignores
-# nothing it is the same, byte for byte. A line is printed for each that is wrong. The status is 1 if there was one, else 0.
+# `check` and `clashes` of what was imported answer as the same command with `--unison` does, with the same status. They are asked with
+# `--unison` too where two profiles share an archive, which the plain answers don't ask about; so are `rounds`. So does `verify` of
+# certificates for it, if it is safe. A fault is the same. What is imported again has the same answer, and if it ignores nothing it is the
+# same, byte for byte. A line is printed for each that is wrong. The status is 1 if there was one, else 0.
 set -euo pipefail
 if [ "${1:-}" = --help ]; then
     sed -n '2,/^set /{ /^#/s/^# \{0,1\}//p }' "${BASH_SOURCE[0]}"
@@ -59,6 +59,7 @@ ask() {
     answer wanted clashes --unison "$@"
     ! grep -q '^same archive: ' "$room/wanted" || reading=(--unison)
     for command in check clashes rounds; do
+        [ "$command" != rounds ] || reading=(--unison)
         cp "$room/bundle" "$room/input"
         answer wanted "$command" --unison "$@"
         cp "$room/imported" "$room/input"

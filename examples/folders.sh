@@ -574,6 +574,9 @@ LINES
     put remote/folding 'folds-names desk /hosts/other' 'folds-names  anna@desk /hosts/desk/' 'laptop~  /home/anna b' $'folds-names\tlaptop /'
     ask 0 check --unison remote/unison --hosts remote/folding <<LINES
 safe
+hubsync: note: desk: Unison on the host that is marked for it takes names that differ in case for one: this answer doesn't know that
+hubsync: note: other: Unison on the host that is marked for it takes names that differ in case for one: this answer doesn't know that
+hubsync: note: top: Unison on the host that is marked for it takes names that differ in case for one: this answer doesn't know that
 $assumed
 LINES
     put remote/folding 'folds-names desk'

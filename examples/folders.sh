@@ -575,6 +575,7 @@ LINES
     ask 0 check --unison remote/unison --hosts remote/folding <<LINES
 safe
 hubsync: note: desk: Unison on the host that is marked for it takes names that differ in case for one: this answer doesn't know that
+hubsync: note: home: Unison on the host that is marked for it takes names that differ in case for one: this answer doesn't know that
 hubsync: note: other: Unison on the host that is marked for it takes names that differ in case for one: this answer doesn't know that
 hubsync: note: top: Unison on the host that is marked for it takes names that differ in case for one: this answer doesn't know that
 $assumed

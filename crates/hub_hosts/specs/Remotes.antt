@@ -1,9 +1,9 @@
 -- Roots on other machines, and the paths that stand for them.
-use Rattle.std.specs.Prelude.{◌≡◌, false, ℕ, ◌==◌, ◌-◌, Bool, not, nat_eq, List, ◌++◌, length, take, drop, Option, Some, None, codes, if◌then◌else◌}
-use Rattle.std.specs.List.{ends_with, find}
+use Rattle.std.specs.Prelude.{◌≡◌, false, ℕ, ◌==◌, ◌-◌, Bool, not, ◌&&◌, nat_eq, List, ◌++◌, length, take, drop, Option, Some, None, codes, if◌then◌else◌}
+use Rattle.std.specs.List.{ends_with, find, list_any}
 use Rattle.std.specs.Option.{option_map, option_or}
 use denote.Ref.{Bor}
-use Rattle.hub_hosts.specs.Table.{Row, has_row, is_for, slash}
+use Rattle.hub_hosts.specs.Table.{Row, has_row, is_for, is_same_name, slash}
 use Rattle.hub_hosts.specs.Words.{before, begins_with, from_first, host_in, skip, skip_end}
 use Rattle.hub_hosts.specs.declared.remote.Local.{Local}
 use Rattle.hub_hosts.specs.declared.remote.Remote.{Remote}
@@ -45,23 +45,18 @@ abbrev pub base_for : List Row → Remote (List ℕ) → Option (List ℕ)
 base_for rows r =
     option_or (path_for rows r.name r.is_in_home) (path_for rows (host_in r.name) r.is_in_home)
 
--- Whether the row that counts for a root says that its host folds names.
-abbrev pub folds_for : List Row → List ℕ → Bool → Option Bool
-folds_for rows name in_home = option_map (λ row. row.folds_names) (find (is_for name in_home) rows)
+-- A row marks a host as one that folds names, whichever user it names, be it for a home or not.
+abbrev pub marks : List ℕ → Row → Bool
+marks host row = row.folds_names && is_same_name (host_in row.name) host
 
-abbrev pub folds_at : List Row → Remote (List ℕ) → Option Bool
-folds_at rows r =
-    option_or (folds_for rows r.name r.is_in_home) (folds_for rows (host_in r.name) r.is_in_home)
-
-abbrev pub is_true_in : Option Bool → Bool
-is_true_in None = false
-is_true_in (Some b) = b
+abbrev pub folds_at : List Row → List ℕ → Bool
+folds_at rows host = list_any (marks host) rows
 
 abbrev pub folds_remote : List Row → Option (Remote (List ℕ)) → Bool
 folds_remote rows None = false
-folds_remote rows (Some r) = is_true_in (folds_at rows r)
+folds_remote rows (Some r) = folds_at rows (host_in r.name)
 
--- A root is on a host that the table has as one that folds names.
+-- A root is on a host that a row of the table marks as one that folds names.
 abbrev pub folds_names : List Row → List ℕ → Bool
 folds_names rows root = folds_remote rows (remote_of root)
 

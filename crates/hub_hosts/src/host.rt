@@ -144,7 +144,7 @@ pub(crate) fn is_for(row: &Host<Items<u8>>, name: &[u8], in_home: bool) -> bool
 }
 
 /// Returns whether two names are the same but for the case of ASCII letters.
-fn is_same_name(one: &[u8], other: &[u8]) -> bool
+pub(crate) fn is_same_name(one: &[u8], other: &[u8]) -> bool
     ensures { result ≡ table.is_same_name one.now other.now }
 {
     one.eq_ignore_ascii_case(other)

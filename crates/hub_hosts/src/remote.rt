@@ -6,7 +6,7 @@ ghost use Rattle.hub_hosts.specs.Remotes as remotes;
 ghost use Rattle.hub_hosts.specs.Table.{is_for};
 ghost use Rattle.hub_hosts.specs.Remotes.{of_local, of_remote};
 
-use crate::host::{Host, Hosts, is_for};
+use crate::host::{Host, Hosts, is_for, is_same_name};
 use crate::words::{before, from_first, host_in, skip, skip_end};
 use hub_text::Items;
 use std::alloc::{AllocError, Global};
@@ -100,36 +100,30 @@ impl Hosts {
         Ok(Some(path))
     }
 
-    /// Returns whether a root is on a host that the table has as one that folds names: it takes those that differ in case alone for one
-    /// name. The row that gives the root its path says so.
+    /// Returns whether a root is on a machine that takes names that differ in case alone for one name: a row marks its host, be it for
+    /// another user, or for roots in a home.
     pub fn folds_names(&self, root: &[u8]) -> bool
         ensures { result ≡ remotes.folds_names self.now root.now }
     {
         match remote_of(root) {
-            Some(remote) => folds_at(self.rows(), remote).unwrap_or(false),
+            Some(remote) => folds_at(self.rows(), host_in(remote.name)),
             None => false,
         }
     }
 }
 
-/// Whether the row for a root says that its host folds names: that of its name with the user, or that of its host.
-fn folds_at(rows: &[Host<Items<u8>>], remote: Remote<&[u8]>) -> Option<bool>
-    ensures { result ≡ remotes.folds_at rows.now (of_remote remote.entry) }
+/// Returns whether a row marks this host as one that folds names.
+fn folds_at(rows: &[Host<Items<u8>>], host: &[u8]) -> bool
+    ensures { result ≡ remotes.folds_at rows.now host.now }
 {
-    match folds_for(rows, remote.name, remote.is_in_home) {
-        Some(folds) => Some(folds),
-        None => folds_for(rows, host_in(remote.name), remote.is_in_home),
-    }
+    rows.iter().any(|row| marks(row, host))
 }
 
-/// Whether the row for this name says that its host folds names.
-fn folds_for(rows: &[Host<Items<u8>>], name: &[u8], in_home: bool) -> Option<bool>
-    ensures { result ≡ remotes.folds_for rows.now name.now in_home }
+/// Returns whether a row marks this host as one that folds names.
+fn marks(row: &Host<Items<u8>>, host: &[u8]) -> bool
+    ensures { result ≡ remotes.marks host.now row.now }
 {
-    match row_for(rows, name, in_home) {
-        Some(row) => Some(row.folds_names),
-        None => None,
-    }
+    row.folds_names && is_same_name(host_in(row.name.as_slice()), host)
 }
 
 /// The path for a root: that of its name with the user, or that of its host.

@@ -152,20 +152,20 @@ a_root_that_is_forced_on_a_path : told (codes "forcepartial = Path a -> ssh://bu
     ≡ codes "forcepartial = Path a -> /hosts/build/srv"
 a_root_that_is_forced_on_a_path = refl
 
--- The row for a user comes first, also here.
+-- A mark holds for the machine.
 abbrev folding_rows : List Row
 folding_rows =
-    folding (row (codes "pc") (codes "/pc")) ∷ row (codes "anna@pc") (codes "/anna")
+    folding (row (codes "bob@pc") (codes "/pc")) ∷ row (codes "anna@pc") (codes "/anna")
     ∷ home_row (codes "pc") (codes "/home") ∷ []
 
 a_root_there_folds : folds_names folding_rows (codes "ssh://bob@PC:22//srv") ≡ true
 a_root_there_folds = refl
 
-the_row_for_a_user_says_otherwise : folds_names folding_rows (codes "ssh://anna@pc//srv") ≡ false
-the_row_for_a_user_says_otherwise = refl
+a_user_without_a_mark : folds_names folding_rows (codes "ssh://anna@pc//srv") ≡ true
+a_user_without_a_mark = refl
 
-the_row_for_a_home_says_otherwise : folds_names folding_rows (codes "ssh://pc/srv") ≡ false
-the_row_for_a_home_says_otherwise = refl
+a_home_without_a_mark : folds_names folding_rows (codes "ssh://pc/srv") ≡ true
+a_home_without_a_mark = refl
 
 a_host_that_the_table_lacks : folds_names folding_rows (codes "ssh://desk//srv") ≡ false
 a_host_that_the_table_lacks = refl

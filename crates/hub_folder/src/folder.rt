@@ -47,7 +47,7 @@ pub struct TakenProfiles {
 /// root, and those that another one includes. (This is this project's choice: Unison takes any name.)
 ///
 /// The lines of each such file must be known, also of one that is no profile. So many bytes of texts were taken before.
-pub fn profiles_in<F: FileReader>(
+pub(crate) fn profiles_in<F: FileReader>(
     alloc: Global,
     reader: &F,
     folder: &str,

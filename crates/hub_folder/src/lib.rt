@@ -2,8 +2,8 @@
 //!
 //! - [`FileReader`]: who reads files by their paths, and lists the names of a folder's files.
 //! - [`profiles_named`]: the profiles that operands name: that of a file, with the lines of the files that it includes, or those of
-//!   a folder. Each is a [`FolderProfile`]: its path, its text for a bundle, and where its lines come from ([`Origins`]).
-//! - [`profiles_in`]: the profiles of a folder. Files that have no root, or that another profile includes, are none.
+//!   a folder. Each is a [`FolderProfile`]: its path, its text for a bundle, and where its lines come from ([`Origins`]). Files of a
+//!   folder that have no root, or that another profile includes, are none.
 //!
 //! ```rust
 //! let taken = match profiles_named(alloc, reader, files.profiles.as_slice()) {
@@ -20,8 +20,8 @@
 //! # What is proved
 //!
 //! - The text of a profile is that of the lines that `hub_include` defines over the bytes that the reader tells.
-//! - `profiles_in` gives that for the files of the folder, but for exactly those without a root line and those that another one
-//!   includes. `profiles_named` gives all profiles of all operands, in their order.
+//! - The profiles of a folder are that for its files, but for exactly those without a root line and those that another one includes.
+//!   `profiles_named` gives all profiles of all operands, in their order.
 //! - A fault is true of what the reader tells: this file can't be read, this folder can't be listed, or this line can't be followed.
 //!
 //! # What is not
@@ -42,7 +42,7 @@ mod told;
 mod wanted;
 
 pub use fault::Untaken;
-pub use folder::{FolderProfile, TakenProfiles, profiles_in};
+pub use folder::{FolderProfile, TakenProfiles};
 pub use operands::profiles_named;
 pub use origins::Origins;
 pub use reader::{FileReader, ReadFault, Unread};

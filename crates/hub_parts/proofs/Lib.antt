@@ -1,0 +1,14 @@
+pub mod AnyRoots
+pub mod Apart
+pub mod Ascending
+pub mod Clashes
+pub mod Coordinates
+pub mod Items
+pub mod ListedParts
+pub mod Order
+pub mod RootParts
+pub mod Sorting
+pub mod Steps
+pub mod Swept
+pub mod Unison
+pub mod Whole

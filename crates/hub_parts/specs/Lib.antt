@@ -1,0 +1,9 @@
+pub mod Whole
+pub mod InUnison
+pub mod Values
+pub mod Near
+pub mod Nested
+pub mod Clashing
+pub mod Listed
+pub mod Anywhere
+pub mod examples

@@ -1,0 +1,3 @@
+pub mod NestedRoots
+pub mod Pairs
+pub mod Sweeps

@@ -1,0 +1,11 @@
+mod Paths
+mod Spelled
+mod Folded
+mod Patterns
+mod Textual
+mod NormOf
+mod Plain
+mod Safe
+mod Places
+mod Texts
+mod Known

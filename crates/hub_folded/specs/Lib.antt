@@ -1,0 +1,10 @@
+pub mod Fold
+pub mod Row
+pub mod Rows
+pub mod Ranges
+pub mod Table
+pub mod Lines
+pub mod InUnison
+pub mod Read
+pub mod Seen
+pub mod examples

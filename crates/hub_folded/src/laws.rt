@@ -1,0 +1,94 @@
+//! What holds where names fold: each law is the contract of an empty function.
+ghost use Rattle.std.specs.Prelude.{◌≡◌, IsTrue, Bool, List, map, true, false};
+ghost use Rattle.hub_path.specs.Path.{Name, Path, is_over};
+ghost use Rattle.hub_glob.specs.Glob.{matches};
+ghost use Rattle.hub_glob.specs.Specification.{Specification};
+ghost use Rattle.hub_profile.specs.Facts.{are_kept};
+ghost use Rattle.hub_profile.specs.declared.rule.Rule.{Rule};
+ghost use Rattle.hub_profile.specs.Parts.{Parts};
+ghost use Rattle.hub_reach.specs.Safe.{IsSafe};
+ghost use Rattle.hub_unison.specs.Rules.{forbidden};
+ghost use Rattle.hub_unison.specs.ReadingOf.{IsWithinLines};
+ghost use Rattle.hub_unison.specs.Shared.{ShareNoArchive};
+ghost use Rattle.hub_folded.specs.Fold.{Folding, IsTextual, knows_path, latin};
+ghost use Rattle.hub_folded.specs.Table.{unicode};
+ghost use Rattle.hub_folded.specs.Lines.{Member, fold_rule, fold_spec, folded_member, folded_rules, folded_set, is_foldable, know_rules, some_fold};
+ghost use Rattle.hub_folded.specs.InUnison.{AreSpelled, IsNormOf, IsSafeFolded, KeepsRulesFolded, Lined, Norm, member_of, norm_of, norm_path, over_up_to};
+ghost use Rattle.hub_folded.specs.Read.{AreReadAsWritten, AreReadFolded};
+ghost use Rattle.hub_folded.specs.Seen.{AreRootsApart, FoldTogether, IsSafeAsOne, IsSafeAtRoots, KeepsRulesAsSeen, over_as_one};
+
+/// If the readings of the folded lines of some profiles beside folded rules are a safe set with these, by none of the profiles
+/// Unison breaks a rule. If no two of the readings have the same two roots, either, no two of the profiles clash in Unison at names
+/// up to folding, whatever Unison folds by, and however the run of each matches paths by the texts of its lines.
+pub fn safe_folded_readings_are_safe_in_unison()
+    ensures safe { (F : Folding) (Vs : List Lined) (Rs : List Rule) (Cs : List Parts)
+        → AreReadFolded F Vs Rs Cs → IsSafe Cs (map forbidden (map (fold_rule F) Rs))
+        → ShareNoArchive Cs → IsSafeFolded F Vs }
+    ensures kept { (F : Folding) (Vs : List Lined) (Rs : List Rule) (Cs : List Parts)
+        → AreReadFolded F Vs Rs Cs → IsSafe Cs (map forbidden (map (fold_rule F) Rs))
+        → KeepsRulesFolded F Vs Rs }
+{}
+
+/// If some names fold, the readings of the folded lines hold for the profiles: what Unison reaches and writes at a path, they reach
+/// and write at the folded path, and they breach each folded rule that it may break.
+pub fn readings_of_folded_lines_hold_in_unison()
+    ensures { (F : Folding) (Vs : List Lined) (Rs : List Rule) (Cs : List Parts)
+        → some_fold (map member_of Vs) ≡ true → AreSpelled Vs
+        → AreReadAsWritten (folded_set F (map member_of Vs))
+        (folded_rules F (map member_of Vs) Rs) Cs
+        → AreReadFolded F Vs Rs Cs }
+{}
+
+/// No two of the profiles clash at names that are one, by any relation of names of which no more is asked than that names that are
+/// one fold to one. No rule is broken at a known path that its own pattern matches. And no two clash at roots that are one up to
+/// folding, if the roots are apart up to folding.
+pub fn what_is_safe_folded_is_safe_as_seen()
+    ensures one { (F : Folding) (Vs : List Lined) → IsSafeFolded F Vs → IsSafeAsOne F Vs }
+    ensures seen { (F : Folding) (Vs : List Lined) (Rs : List Rule) → IsTextual F
+        → know_rules F Rs ≡ true → KeepsRulesFolded F Vs Rs → KeepsRulesAsSeen F Vs Rs }
+    ensures roots { (F : Folding) (Vs : List Lined) → AreRootsApart F Vs → IsSafeFolded F Vs
+        → IsSafeAtRoots F Vs }
+{}
+
+/// If the names of no host fold, lines and rules stay as they are.
+pub fn without_folded_names_nothing_changes()
+    ensures lines { (F : Folding) (Ms : List Member) → some_fold Ms ≡ false
+        → folded_set F Ms ≡ map (λ M. M.parts) Ms }
+    ensures rules { (F : Folding) (Ms : List Member) (Rs : List Rule) → some_fold Ms ≡ false
+        → folded_rules F Ms Rs ≡ Rs }
+{}
+
+/// A path over another one is over it up to folding, also if names count as one that fold to one.
+pub fn paths_that_are_one_are_one_up_to_folding()
+    ensures same { (N : Norm) (p q : Path) → IsTrue (is_over p q) → IsTrue (over_up_to N p q) }
+    ensures one { (N : Norm) (one : Name → Name → Bool) (p q : Path) → FoldTogether one N
+        → IsTrue (over_as_one one p q) → IsTrue (over_up_to N p q) }
+{}
+
+/// Unison may fold as a folding does, so what is assumed of Unison can be met.
+pub fn a_folding_is_met()
+    ensures { (F : Folding) → IsNormOf F (norm_of F) }
+{}
+
+/// In both modes patterns fold as names do.
+pub fn both_modes_fold_texts()
+    ensures by_table { IsTextual unicode }
+    ensures by_ascii { IsTextual latin }
+{}
+
+/// A rule without `?` and without sets past ASCII holds for each spelling: if it matches a known path, the folded rule matches the
+/// path as Unison folds it.
+pub fn rules_hold_for_each_spelling()
+    ensures { (F : Folding) (N : Norm) (s : Specification) (q : Path) → IsTextual F → IsNormOf F N
+        → IsTrue (is_foldable s) → IsTrue (knows_path F q) → IsTrue (matches s q)
+        → IsTrue (matches (fold_spec F s) (norm_path N q)) }
+{}
+
+/// Folded lines are the lines of a profile: its kept values may be kept values, its roots stay, and it has no more `ignore` and
+/// `ignorenot` lines than may be read.
+pub fn folded_lines_are_lines_of_a_profile()
+    ensures kept { (F : Folding) (M : Member) → are_kept (folded_member F M).paths ≡ true }
+    ensures roots { (F : Folding) (M : Member) → (folded_member F M).roots ≡ M.parts.roots }
+    ensures within { (F : Folding) (M : Member) → IsWithinLines M.parts
+        → IsWithinLines (folded_member F M) }
+{}

@@ -14,3 +14,4 @@ pub mod Fitting
 pub mod Settlement
 pub mod Ending
 pub mod Crossing
+pub mod Waiting

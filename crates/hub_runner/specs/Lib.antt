@@ -1,3 +1,4 @@
+pub mod Part
 pub mod Settling
 pub mod Working
 pub mod forms

@@ -45,10 +45,12 @@ mod desks;
 mod entries;
 mod inconsistent;
 mod mismatch;
+mod part;
 mod pool;
 mod runs;
 mod settling;
 mod worker;
 
+pub use part::run_part;
 pub use runs::{WORKERS, run};
 pub use settling::settle;

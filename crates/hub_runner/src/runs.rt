@@ -84,9 +84,11 @@ fn run_set<'a, G: Gate + Sync, R: Threads + Wait + Sync>(
 
 /// What the jobs of a set have done: the books of its roots, and the jobs, which have ended.
 #[derive(Drop)]
-struct Done<'a> {
-    books: Vec<Book<'a>>,
-    jobs: Vec<Job<'a>>,
+pub(crate) struct Done<'a> {
+    /// The books.
+    pub(crate) books: Vec<Book<'a>>,
+    /// The jobs.
+    pub(crate) jobs: Vec<Job<'a>>,
 }
 
 /// Steps the jobs of a set until they end.
@@ -109,10 +111,13 @@ fn step_set<'a, G: Gate + Sync, R: Threads + Wait + Sync>(
 
 /// What the jobs of a set step with: the desks of its roots, the seats of each worker, and the jobs.
 #[derive(Drop)]
-struct Opened<'a> {
-    desks: Desks<'a>,
-    seats: Vec<Vec<Seat>>,
-    jobs: Vec<QueuedJob<'a>>,
+pub(crate) struct Opened<'a> {
+    /// The desks.
+    pub(crate) desks: Desks<'a>,
+    /// The seats of each worker.
+    pub(crate) seats: Vec<Vec<Seat>>,
+    /// The jobs.
+    pub(crate) jobs: Vec<QueuedJob<'a>>,
 }
 
 /// Opens the desks of a set and makes its jobs, for so many workers, or for as many as there are jobs if these are fewer.
@@ -132,7 +137,7 @@ fn open_set<'a>(
 }
 
 /// Closes the desks of a set whose jobs have ended.
-fn close_set<'a>(
+pub(crate) fn close_set<'a>(
     alloc: Global,
     desks: Desks<'a>,
     seats: Vec<Vec<Seat>>,

@@ -55,7 +55,7 @@ pub fn settle<'a>(
 }
 
 /// Compares books and jobs, and puts together what they leave, as `settle` does, whether the set is safe or not.
-fn settle_jobs<'a>(
+pub(crate) fn settle_jobs<'a>(
     alloc: Global,
     set: &'a ProfileSet,
     state: &State,

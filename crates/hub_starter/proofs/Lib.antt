@@ -1,0 +1,17 @@
+pub mod Numbers
+pub mod Frames
+pub mod Parts
+pub mod Trees
+pub mod Histories
+pub mod Pairs
+pub mod Orders
+pub mod Marks
+pub mod Starts
+pub mod OneWave
+pub mod Composed
+pub mod Lines
+pub mod Outcomes
+pub mod Rising
+pub mod Merging
+pub mod Faults
+pub mod Runs

@@ -1,0 +1,5 @@
+pub mod Opened
+pub mod InOrder
+pub mod Waves
+pub mod Waved
+pub mod examples

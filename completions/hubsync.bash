@@ -4,7 +4,7 @@
 
 _hubsync() {
     local word=${COMP_WORDS[COMP_CWORD]} before=${COMP_WORDS[COMP_CWORD - 1]} command='' each candidates=''
-    local commands='check certify verify clashes mend rounds import reach run help'
+    local commands='check certify verify clashes mend rounds plan import reach run help'
     COMPREPLY=()
     # after a redirection come the names of files, which bash completes by itself
     [[ $before != [\<\>]* && $word != [\<\>]* ]] || return 0
@@ -22,11 +22,11 @@ _hubsync() {
         help/-*) ;;
         help/*) candidates=$commands ;;
         reach/-*) candidates='--unison -h --help' ;;
-        import/-*) candidates='--rules --strict --hosts --verbose -h --help' ;;
+        plan/-* | import/-*) candidates='--rules --strict --hosts --verbose -h --help' ;;
         clashes/-*) candidates='--rules --state --certificates --strict --unison --hosts --verbose --dot -h --help' ;;
         mend/-*) candidates='--rules --state --certificates --strict --unison --hosts --verbose --bundle -h --help' ;;
         check/-* | rounds/-*) candidates='--rules --state --certificates --strict --unison --hosts --verbose -h --help' ;;
-        run/-*) candidates='--rules --state --certificates --strict --workers --rounds -h --help' ;;
+        run/-*) candidates='--rules --state --certificates --strict --workers --rounds --in-order -h --help' ;;
         */-*) candidates='--rules --state --certificates --strict -h --help' ;;
         run/*) [[ $before != --workers ]] || candidates='1 2 3 4 5 6 7 8 9 10 11 12 13 14 15 16' ;;
     esac

@@ -264,9 +264,10 @@ ask_run_of_rounds() {
 ask_threads() {
     local words status first
     profile_with %state 'hubsync state 1' 'replica /srv/hub' 'file - e' 'replica /srv/s1' end >"$room/input"
-    for words in run 'run --workers 1' 'run --rounds'; do
+    for words in run 'run --workers 1' 'run --rounds' 'run --in-order'; do
         first=safe
         [[ $words != *rounds ]] || first='rounds 1'
+        [[ $words != *order ]] || first='in order'
         printf '%s\n' "$first" 'run fault: ThreadRefused' >"$room/wanted"
         status=0
         (

@@ -16,9 +16,9 @@ use Rattle.clap.specs.declared.builder.action.ArgAction.TheVariants.{Append, Set
 use Rattle.clap.specs.declared.builder.value_parser.ValueParser.TheVariants.{Signed}
 use Rattle.hub_cli.specs.declared.files.Files.{Files}
 use Rattle.hub_cli.specs.declared.words.Query.{Query}
-use Rattle.hub_cli.specs.declared.words.Query.TheVariants.{About, Reach, Import, Mend}
+use Rattle.hub_cli.specs.declared.words.Query.TheVariants.{About, Reach, Import, Plan, Mend}
 use Rattle.hub_cli.specs.declared.words.Question.{Question}
-use Rattle.hub_cli.specs.declared.words.Question.TheVariants.{CheckWithState, Run, RunByRounds}
+use Rattle.hub_cli.specs.declared.words.Question.TheVariants.{CheckWithState, Run, RunByRounds, RunInOrder}
 use Rattle.hub_cli.specs.declared.words.Question.TheVariants.{Check, Certify, Verify}
 use Rattle.hub_cli.specs.declared.words.Question.TheVariants.{Clashes, Graph, Rounds}
 use Rattle.hub_cli.specs.declared.words.Reading.{Reading}
@@ -103,14 +103,16 @@ clashes_app = with_rule (reading_app (codes "clashes")) (flag (codes "dot"))
 abbrev pub mend_app : App
 mend_app = with_rule (reading_app (codes "mend")) (flag (codes "bundle"))
 
--- `import`, which may take its profiles and rules from files, and may have these and `--strict`
-abbrev pub import_app : App
-import_app =
-    with_hosts (with_rule (with_profiles (new_app (codes "import"))) strict_flag)
+-- a command that is always for Unison: it may take its profiles and rules from files, and may have
+-- these and `--strict`
+abbrev pub unison_app : Text → App
+unison_app name = with_hosts (with_rule (with_profiles (new_app name)) strict_flag)
 
--- `run`, which may also have `--workers N` and `--rounds`
+-- `run`, which may also have `--workers N`, `--rounds` and `--in-order`
 abbrev pub run_app : App
-run_app = with_rule (with_rule (set_app (codes "run")) workers_option) (flag (codes "rounds"))
+run_app =
+    with_rule (with_rule (with_rule (set_app (codes "run")) workers_option) (flag (codes "rounds")))
+    (flag (codes "in-order"))
 
 -- `hubsync`, which has a version
 abbrev pub top_app : App
@@ -126,28 +128,32 @@ checker_app =
 -- and with those that say more than a yes or a no
 abbrev pub about_app : App
 about_app =
-    with_subcommand (with_subcommand (with_subcommand (with_subcommand checker_app clashes_app.top)
+    with_subcommand (with_subcommand (with_subcommand (with_subcommand (with_subcommand checker_app
+    clashes_app.top)
     mend_app.top)
     (reading_app (codes "rounds")).top)
-    import_app.top
+    (unison_app (codes "plan")).top)
+    (unison_app (codes "import")).top
 
 -- the command as clap reads it
 unfoldable pub hubsync_app : App
 hubsync_app = with_subcommand (with_subcommand about_app reach_app.top) run_app.top
 
 -- what is asked for: something about the set of the profiles and rules, whether a profile, so
--- read, reaches a path, a bundle of the profiles' readings for Unison, or lines that make the set of
--- the profiles, so read, and rules safe, as they are or in the bundle
+-- read, reaches a path, a bundle of the profiles' readings for Unison, a plan of Unison's runs, or
+-- lines that make the set of the profiles, so read, and rules safe, as they are or in the bundle
 pub data Request : Type 0 where
   about : Question → Request
   reach : Reading → Text → Text → Request
   imported : Request
+  planned : Request
   mended : Reading → Bool → Request
 
 abbrev pub request_of : Query → Request
 request_of (About question) = about question
 request_of (Reach reading profile path) = reach reading profile.now path.now
 request_of Import = imported
+request_of Plan = planned
 request_of (Mend reading as_bundle) = mended reading as_bundle
 
 -- how a question about the set wants the profiles to be read: runs and certificates are always of
@@ -156,6 +162,7 @@ abbrev pub reading_of : Question → Reading
 reading_of CheckWithState = Plain
 reading_of (Run n) = Plain
 reading_of (RunByRounds n) = Plain
+reading_of (RunInOrder n) = Plain
 reading_of (Check reading) = reading
 reading_of Certify = Plain
 reading_of Verify = Plain
@@ -168,6 +175,7 @@ abbrev pub reading_for : Request → Reading
 reading_for (about question) = reading_of question
 reading_for (reach reading profile path) = reading
 reading_for imported = Unison
+reading_for planned = Unison
 reading_for (mended reading as_bundle) = reading
 
 -- the operands PROFILE and PATH, if both are there
@@ -199,14 +207,19 @@ abbrev pub workers_in : Option Text → Option ℕ
 workers_in None = None
 workers_in (Some text) = byte_of text
 
--- a run by so many workers, by rounds or not
-abbrev pub run_with : Bool → ℕ → Request
-run_with by_rounds n = if by_rounds then about (RunByRounds n) else about (Run n)
+-- a run by so many workers, by rounds, in order or neither; nothing if both are asked for, or if no
+-- number is given
+abbrev pub run_with : Bool → Bool → Option ℕ → Option Request
+run_with by_rounds in_order None = None
+run_with true true (Some n) = None
+run_with true false (Some n) = Some (about (RunByRounds n))
+run_with false true (Some n) = Some (about (RunInOrder n))
+run_with false false (Some n) = Some (about (Run n))
 
 -- a run by so many workers as the option says
 abbrev pub run_by : List Row → Option Request
 run_by rows =
-    option_map (run_with (is_set (codes "rounds") rows))
+    run_with (is_set (codes "rounds") rows) (is_set (codes "in-order") rows)
     (workers_in (one_of (codes "workers") rows))
 
 -- all that clashes, drawn as a graph or not
@@ -238,7 +251,8 @@ about_named name rows =
     else (if bytes_eq name (codes "mend") then Some (mend_request rows)
     else (if bytes_eq name (codes "rounds") then Some (about (Rounds (reading_in rows)))
     else (if bytes_eq name (codes "import") then Some imported
-    else (if bytes_eq name (codes "run") then run_by rows else None)))))))
+    else (if bytes_eq name (codes "plan") then Some planned
+    else (if bytes_eq name (codes "run") then run_by rows else None))))))))
 
 -- an option with a value is on the command line
 abbrev pub is_given : Text → List Row → Bool
@@ -261,9 +275,11 @@ abbrev pub lacks_profiles : List Row → Bool
 lacks_profiles rows = not (has_operands (all_of (codes "files") rows)) && has_file_option rows
 
 -- the command that was used, of this name, reads the profiles for Unison: it has `--unison`, or it
--- is `import`
+-- is `import` or `plan`
 abbrev pub is_for_unison : Text → List Row → Bool
-is_for_unison name rows = is_set (codes "unison") rows || bytes_eq name (codes "import")
+is_for_unison name rows =
+    is_set (codes "unison") rows
+    || (bytes_eq name (codes "import") || bytes_eq name (codes "plan"))
 
 -- each operand may be one: for Unison also a folder, else only the file of a profile, and then
 -- there is no table of hosts

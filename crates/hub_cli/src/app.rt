@@ -6,11 +6,11 @@ ghost use Rattle.std.specs.Prelude.{◌≡◌, IfOk, Ok, false};
 ghost use Rattle.clap.specs.Words.{app_of, new_app, rule_of, with_rule};
 ghost use Rattle.clap.specs.declared.builder.command.Command.TheViews.{out-Command as fields_of};
 ghost use Rattle.hub_cli.specs.Words as words;
-ghost use Rattle.hub_cli.specs.Words.{about_app, checker_app, clashes_app, hubsync_app, import_app, mend_app, reach_app, reading_app};
-ghost use Rattle.hub_cli.specs.Words.{IsCommand, run_app, set_app, top_app, with_app};
+ghost use Rattle.hub_cli.specs.Words.{about_app, checker_app, clashes_app, hubsync_app, mend_app, reach_app, reading_app};
+ghost use Rattle.hub_cli.specs.Words.{IsCommand, run_app, set_app, top_app, unison_app, with_app};
 
 use crate::help::{
-    CERTIFY, CHECK, CLASHES, HUBSYNC, Help, IMPORT, LONG, MEND, REACH, ROUNDS, RUN, VERIFY,
+    CERTIFY, CHECK, CLASHES, HUBSYNC, Help, IMPORT, LONG, MEND, PLAN, REACH, ROUNDS, RUN, VERIFY,
 };
 use crate::words::DEFAULT_WORKERS_TEXT;
 use clap::{Arg, ArgAction, Command, value_parser};
@@ -179,7 +179,9 @@ fn run_command<'a>(alloc: Global) -> Result<Box<Command<'a>>, AllocError>
     let command = set_command(alloc, "run", RUN)?;
     let command = with_argument(alloc, command, workers_option(alloc))?;
     let rounds = "Run the rounds of the set one after another";
-    with_argument(alloc, command, flag(alloc, "rounds", rounds))
+    let command = with_argument(alloc, command, flag(alloc, "rounds", rounds))?;
+    let in_order = "Run the jobs of any set as if one after another, in their order";
+    with_argument(alloc, command, flag(alloc, "in-order", in_order))
 }
 
 /// A command that may have `--unison`.
@@ -234,11 +236,15 @@ fn mend_command<'a>(alloc: Global) -> Result<Box<Command<'a>>, AllocError>
     with_argument(alloc, command, flag(alloc, "bundle", bundle))
 }
 
-/// The command `import`.
-fn import_command<'a>(alloc: Global) -> Result<Box<Command<'a>>, AllocError>
-    ensures { IfOk result (λ c. IsCommand import_app c.value) }
+/// A command that is always for Unison: it may take files and have `--strict`, a table of hosts and `--verbose`.
+fn unison_command<'a>(
+    alloc: Global,
+    name: &'a str,
+    help: Help,
+) -> Result<Box<Command<'a>>, AllocError>
+    ensures { IfOk result (λ c. IsCommand (unison_app name.now) c.value) }
 {
-    let command = with_profiles(alloc, plain_command(alloc, "import", IMPORT)?)?;
+    let command = with_profiles(alloc, plain_command(alloc, name, help)?)?;
     let command = with_strict(alloc, command)?;
     with_hosts(alloc, command)
 }
@@ -296,6 +302,19 @@ fn with_set<'a>(
     with_command(alloc, top, set_command(alloc, name, help)?)
 }
 
+/// A command with one more command, which is always for Unison.
+fn with_unison_command<'a>(
+    alloc: Global,
+    top: Box<Command<'a>>,
+    name: &'a str,
+    help: Help,
+) -> Result<Box<Command<'a>>, AllocError>
+    ensures { IfOk result (λ c. app_of c.value
+        ≡ with_app (app_of top.entry.value) (unison_app name.now)) }
+{
+    with_command(alloc, top, unison_command(alloc, name, help)?)
+}
+
 /// The program's command before it has commands.
 fn top_command<'a>(alloc: Global) -> Result<Box<Command<'a>>, AllocError>
     ensures { IfOk result (λ c. app_of c.value ≡ top_app) }
@@ -324,7 +343,8 @@ fn about_command<'a>(alloc: Global) -> Result<Box<Command<'a>>, AllocError>
     let top = with_command(alloc, top, clashes_command(alloc)?)?;
     let top = with_command(alloc, top, mend_command(alloc)?)?;
     let top = with_reading(alloc, top, "rounds", ROUNDS)?;
-    with_command(alloc, top, import_command(alloc)?)
+    let top = with_unison_command(alloc, top, "plan", PLAN)?;
+    with_unison_command(alloc, top, "import", IMPORT)
 }
 
 /// The program's command, with its texts of help.

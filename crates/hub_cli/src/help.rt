@@ -66,6 +66,14 @@ pub(crate) const ROUNDS: Help = Help {
     example: "Example: hubsync rounds docs.prf photos.prf",
 };
 
+/// That of `plan`.
+pub(crate) const PLAN: Help = Help {
+    about: "Says which profiles Unison may run at the same time, for a program that runs it",
+    usage: "hubsync plan < BUNDLE\n       hubsync plan [OPTIONS] FILE.prf..\n       \
+        hubsync plan [OPTIONS] FOLDER",
+    example: "Example: hubsync plan ~/.unison",
+};
+
 /// That of `import`.
 pub(crate) const IMPORT: Help = Help {
     about: "Writes a bundle of what Unison 2.52 may do by the profiles",
@@ -84,7 +92,8 @@ pub(crate) const REACH: Help = Help {
 /// That of `run`.
 pub(crate) const RUN: Help = Help {
     about: "Runs the jobs of a safe set on the state of the input",
-    usage: "hubsync run [--workers N] [--rounds] < BUNDLE\n       hubsync run [OPTIONS] FILE.prf..",
+    usage: "hubsync run [--workers N] [--rounds | --in-order] < BUNDLE\n       \
+        hubsync run [OPTIONS] FILE.prf..",
     example: "Examples: hubsync run docs.prf photos.prf --state state\n          \
         hubsync run --rounds docs.prf photos.prf --state state",
 };
@@ -150,9 +159,24 @@ started. The answer to 'run' without a state is 'fault: no state'.
 it. 'rounds N' stands in the place of 'safe', and 'run fault: ..' below the
 lines of the rounds that were run. The state that they left always follows.
 
+'run --in-order' runs the jobs of any set of which no profile may break a rule,
+and leaves what they leave one after another, in the order of the profiles.
+'in order' stands in the place of 'safe'.
+
 'clashes --dot' draws the profiles, their roots and what clashes as a graph for
 Graphviz. Profiles that clash are joined by a red line, and a profile that may
 break a rule is a red box. What is too large to decide is dashed.
+
+'plan' prints which profiles Unison may run at the same time, for a program that
+runs it. A line begins with what it says, and names profiles by numbers:
+
+  plan 1                    the version of this form
+  profile 1 docs            a profile's number and its name
+  root 1 /srv/hub           one of its two roots, the left one first
+  apart 1 2 overlap: ..     1 and 2 may not run at the same time, and why
+  alone 3 line 5: ..        hubsync can't read 3: no other may run beside it
+  refused 4 breach: ..      4 may break a rule, so it isn't to be run
+  order 1 2 3               those that are to be run, in an order that will do
 
 'mend' prints lines that make the set safe, each behind the name of its profile,
 and then 'safe with N lines', or what 'check' prints of the set with these
@@ -160,8 +184,8 @@ lines. They only take away: each profile reaches and writes no more than before.
 'mend --bundle' prints the bundle with the lines in place.
 
 With '--unison', 'check', 'clashes', 'mend' and 'rounds' follow the lines
-'include' and 'source' of the files, as 'import' does, and an operand may be a
-folder, as ~/.unison: its files
+'include' and 'source' of the files, as 'import' and 'plan' do, and an operand
+may be a folder, as ~/.unison: its files
 '*.prf' with roots are the profiles, but those that another one includes.
 '--hosts' names a file of lines 'HOST PATH', by which a path stands for the / of
 a host in roots as ssh://HOST//srv. '--verbose' lists on standard error each
@@ -171,15 +195,17 @@ With '--unison', 'check', 'clashes', 'mend', 'rounds' and 'reach' answer about
 what Unison 2.52 may do by the profiles, not about hubsync's own reading of them.
 What is safe then is safe in Unison, under what standard error says is assumed.
 An overlap or a breach may come of this reading alone: compare with the answer
-without it. 'import' reads the profiles in the same way, and writes what it read
-as a bundle: without '--unison' it has the same answers.
+without it. 'import' and 'plan' read the profiles in the same way. 'import' writes
+what it read as a bundle: without '--unison' it has the same answers.
 
 Exit status:
   0  safe and no job stopped, verified, certificates, reached or not reached;
-     rounds, if each profile is in one and nothing was too large to decide
+     rounds, if each profile is in one and nothing was too large to decide;
+     a plan, if no profile is refused
   1  the profiles may not run at the same time, or may break a rule, or that
-     they are safe was not shown; a profile in no round; with --strict also in
-     the place of 0, if standard error has a note that a yes may mislead
+     they are safe was not shown; a profile in no round, or one that a plan
+     refuses; with --strict also in the place of 0, if standard error has a note
+     that a yes may mislead
   2  a fault of the input or of the command line, or a failed output; help and
      version too
   3  a job was stopped, or no job was run: 'run fault: ..'

@@ -41,6 +41,9 @@ pub enum Question {
     Run(u8),
     /// What they do and leave if the rounds of the set run one after another: with that many workers.
     RunByRounds(u8),
+    /// What they do and leave, whether the set is safe or not, as if they ran one after another in the order of the profiles: with
+    /// that many workers.
+    RunInOrder(u8),
     /// Whether the set is safe.
     Check(Reading),
     /// Certificates for its goals.
@@ -68,6 +71,7 @@ impl Question {
             Question::CheckWithState
             | Question::Run(_)
             | Question::RunByRounds(_)
+            | Question::RunInOrder(_)
             | Question::Certify
             | Question::Verify => Reading::Plain,
         }
@@ -90,6 +94,8 @@ pub enum Query<'a> {
     },
     /// A bundle of the profiles' readings for Unison, and of the rules.
     Import,
+    /// A plan: which profiles Unison may run at the same time.
+    Plan,
     /// Lines that make the set safe.
     Mend {
         /// How the profiles are to be read.
@@ -107,7 +113,7 @@ impl<'a> Query<'a> {
         match *self {
             Query::About(question) => question.reading(),
             Query::Reach { reading, .. } | Query::Mend { reading, .. } => reading,
-            Query::Import => Reading::Unison,
+            Query::Import | Query::Plan => Reading::Unison,
         }
     }
 }
@@ -117,15 +123,16 @@ impl<'a> Query<'a> {
 /// `check`, `certify`, `verify`, `clashes` and `rounds` ask about the set. Without a command the words ask for the check, and
 /// for a run of the jobs if the bundle has a state. With `--dot`, `clashes` asks for a graph. `mend` asks for lines that make
 /// the set safe, and with `--bundle` for the bundle with these lines.
-/// `run` asks for a run, and with `--rounds` for one by rounds. `--workers N` gives the number of workers, from 0 to 255, and
-/// without it there are [`DEFAULT_WORKERS`]. Each of these commands may name files and have `--strict` (`read_options`). If it
-/// names files, one at least is that of a profile.
+/// `run` asks for a run, with `--rounds` for one by rounds, and with `--in-order` for one of any set in its order. It can't have both.
+/// `--workers N` gives the number of workers, from 0 to 255, and without it there are [`DEFAULT_WORKERS`].
+///
+/// Each of these commands may name files and have `--strict` (`read_options`). If it names files, one at least is that of a profile.
 ///
 /// `reach PROFILE PATH` takes any two operands, also the empty word and `-`. An operand that begins with `-` and is longer
 /// needs `--` before it.
 ///
-/// By `--unison` the profiles are read for Unison. `check`, `clashes`, `mend`, `rounds` and `reach` may have it. `import` always reads
-/// them so, and asks for a bundle of their readings.
+/// By `--unison` the profiles are read for Unison. `check`, `clashes`, `mend`, `rounds` and `reach` may have it. `import` and `plan`
+/// always read them so: `import` asks for a bundle of their readings, and `plan` for a plan of Unison's runs.
 ///
 /// An `Err` is `clap`'s: a mistake in the words, a request for help or for the version, or out of memory. Its `Display` is
 /// the text for the user.
@@ -216,8 +223,8 @@ fn is_plain_command(word: &str) -> bool {
     word == "run" || word == "certify" || word == "verify" || word.as_bytes().starts_with(b"-")
 }
 
-/// The error for words that `clap` takes and that ask for nothing: an operand that isn't the file of a profile, or else one
-/// that is missing, as that of a profile beside other files.
+/// The error for words that `clap` takes and that ask for nothing: an operand that isn't the file of a profile, a run that is to be
+/// made in two ways, or else an operand that is missing, as that of a profile beside other files.
 fn refusal<'a>(
     alloc: Global,
     hubsync: &mut Command<'a>,
@@ -231,6 +238,10 @@ fn refusal<'a>(
         None if has_stray_hosts(matches) => hubsync.error(
             ErrorKind::MissingRequiredArgument,
             "'--hosts' is for '--unison'",
+        ),
+        None if is_run_in_two_ways(matches) => hubsync.error(
+            ErrorKind::ArgumentConflict,
+            "the argument '--rounds' cannot be used with '--in-order'",
         ),
         None => hubsync.error(
             ErrorKind::MissingRequiredArgument,
@@ -258,8 +269,18 @@ fn has_stray_hosts(matches: &ArgMatches<'_>) -> bool {
     }
 }
 
+/// Returns whether a run is to be made by rounds and in order.
+fn is_run_in_two_ways(matches: &ArgMatches<'_>) -> bool {
+    match matches.subcommand() {
+        Some((name, found)) => name == "run"
+            && is_set(found, "rounds")
+            && is_set(found, "in-order"),
+        None => false,
+    }
+}
+
 /// What was asked for, by the matches. A `None` is an unknown command, one without its operands, one with an operand that
-/// isn't the file of a profile, or one with files but none of a profile.
+/// isn't the file of a profile, one with files but none of a profile, or a run in two ways.
 fn asked_in<'a>(matches: &ArgMatches<'a>) -> Option<Query<'a>>
     ensures { option_map request_of result ≡ request_in (subcommand_rows_of matches.now) }
 {
@@ -336,7 +357,7 @@ fn are_operands(name: &str, found: &ArgMatches<'_>) -> bool
 pub(crate) fn is_for_unison(name: &str, found: &ArgMatches<'_>) -> bool
     ensures { result ≡ words.is_for_unison name.now (rows_of (found_of found.now)) }
 {
-    is_set(found, "unison") || name == "import"
+    is_set(found, "unison") || name == "import" || name == "plan"
 }
 
 /// Returns whether all operands are files of profiles.
@@ -390,6 +411,9 @@ fn about<'a>(name: &str, found: &ArgMatches<'_>) -> Option<Query<'a>>
     if name == "import" {
         return Some(Query::Import);
     }
+    if name == "plan" {
+        return Some(Query::Plan);
+    }
     if name == "run" {
         return run_by(found);
     }
@@ -433,17 +457,19 @@ fn run_by<'a>(found: &ArgMatches<'_>) -> Option<Query<'a>>
     ensures { option_map request_of result ≡ words.run_by (rows_of (found_of found.now)) }
 {
     let workers = workers_in(found)?;
-    Some(run_with(is_set(found, "rounds"), workers))
+    let question = run_with(is_set(found, "rounds"), is_set(found, "in-order"), workers)?;
+    Some(Query::About(question))
 }
 
-/// A run by that many workers, by rounds or not.
-fn run_with<'a>(by_rounds: bool, workers: u8) -> Query<'a>
-    ensures { request_of result ≡ words.run_with by_rounds workers }
+/// A run by that many workers, by rounds, in order or neither. It can't be both.
+fn run_with(by_rounds: bool, in_order: bool, workers: u8) -> Option<Question>
+    ensures { option_map words.about result ≡ words.run_with by_rounds in_order (Some workers) }
 {
-    if by_rounds {
-        Query::About(Question::RunByRounds(workers))
-    } else {
-        Query::About(Question::Run(workers))
+    match (by_rounds, in_order) {
+        (true, true) => None,
+        (true, false) => Some(Question::RunByRounds(workers)),
+        (false, true) => Some(Question::RunInOrder(workers)),
+        (false, false) => Some(Question::Run(workers)),
     }
 }
 

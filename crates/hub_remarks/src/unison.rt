@@ -53,12 +53,12 @@ impl Listing {
 
 /// Returns whether the profiles are read for Unison.
 pub(crate) fn is_for_unison(words: &[String]) -> bool {
-    is_import(words) || has_word(words, "--unison")
+    is_always_for_unison(words) || has_word(words, "--unison")
 }
 
-/// Returns whether a bundle is asked for of what was read for Unison.
-fn is_import(words: &[String]) -> bool {
-    words.get(1).is_some_and(|word| word.as_str() == "import")
+/// Returns whether the command reads the profiles for Unison, whatever the other words are.
+fn is_always_for_unison(words: &[String]) -> bool {
+    words.get(1).is_some_and(|word| word.as_str() == "import" || word.as_str() == "plan")
 }
 
 /// Returns whether this is one of the words.

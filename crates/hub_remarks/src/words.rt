@@ -30,7 +30,7 @@ pub(crate) fn say_words(out: &mut String, alloc: Global, words: &[String]) -> Sa
     };
     match first.as_str() {
         "version" => say(out, "hubsync --version shows the version"),
-        "import" | "reach" | "help" => Ok(()),
+        "import" | "plan" | "reach" | "help" => Ok(()),
         word if COMMANDS.contains(&word) => say_stray(out, words, word),
         word => say_no_command(out, alloc, word),
     }

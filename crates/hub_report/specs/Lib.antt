@@ -14,6 +14,8 @@ pub mod FaultyInput
 pub mod ReachAnswer
 pub mod Verdict
 pub mod ClashesAnswer
+pub mod Plan
+pub mod PlanAnswer
 pub mod RunAnswer
 pub mod Report
 pub mod laws

@@ -10,11 +10,13 @@ use Rattle.hub_report.specs.declared.report.Report.{Report}
 use Rattle.hub_report.specs.declared.report.Report.TheVariants.{Faulty, Reach, NoState, Refused, SameArchive}
 use Rattle.hub_report.specs.declared.report.Report.TheVariants.{Verdict, Clashes, Run}
 use Rattle.hub_report.specs.declared.report.Report.TheVariants.{Imported, NotImported}
+use Rattle.hub_report.specs.declared.report.Report.TheVariants.{Planned}
 use Rattle.hub_report.specs.declared.report.Report.TheVariants.{Mended, NotMended}
 use Rattle.hub_report.specs.declared.report.Report.TheVariants.{NotVerified, OutOfMemory}
 use Rattle.hub_report.specs.Archive.{archive_line}
 use Rattle.hub_report.specs.ClashesAnswer as clashes
 use Rattle.hub_report.specs.FaultyInput as input
+use Rattle.hub_report.specs.PlanAnswer as plan
 use Rattle.hub_report.specs.ReachAnswer as reach
 use Rattle.hub_report.specs.Refusal.{refusal_line}
 use Rattle.hub_report.specs.RunAnswer as run
@@ -32,6 +34,7 @@ text_of (Clashes a) = clashes.text_of a
 text_of (Run a) = run.text_of a
 text_of (Imported text) = text.items
 text_of NotImported = codes "fault: no bundle says what was read\n"
+text_of (Planned a) = plan.text_of a
 text_of (Mended m) = m.text.items
 text_of NotMended = codes "fault: the lines were not read as they were meant\n"
 text_of NotVerified = codes "fault: a round was not verified\n"
@@ -53,6 +56,7 @@ status_of (Clashes a) = clashes.status_of a
 status_of (Run a) = run.status_of a
 status_of (Imported text) = 0
 status_of NotImported = 2
+status_of (Planned a) = plan.status_of a
 status_of (Mended m) = mended_status m.safe
 status_of NotMended = 2
 status_of NotVerified = 2

@@ -1,3 +1,4 @@
 pub mod Graph
 pub mod Jobs
 pub mod Report
+pub mod Plan

@@ -1,13 +1,14 @@
 //! The answers of hubsync: the status and the text of each.
 //!
 //! - [`Report`] is an answer to an input. It has one case for each part of the program that answers: [`FaultyInput`],
-//!   [`ReachAnswer`], [`Verdict`], [`ClashesAnswer`] and [`RunAnswer`].
+//!   [`ReachAnswer`], [`Verdict`], [`ClashesAnswer`], [`PlanAnswer`] and [`RunAnswer`].
 //! - [`Mended`] has lines that were found for profiles.
-//! - [`Run`] is what the jobs of a safe set did and left.
+//! - [`Run`] is what the jobs of a safe set did and left, or those of any set that were run in order.
 //! - [`RoundsRun`] is what the jobs of a set did and left that were run by rounds.
 //! - [`lines_of_jobs`] are the lines that say what jobs did.
 //! - [`lines_of_clashes`] are the lines of all that clashes in a set and of archives that are shared, and [`text_of_rounds`] is the text of its rounds.
 //! - [`graph_of_clashes`] is the text of a [`Graph`] of what clashes, for Graphviz.
+//! - [`plan_of`] is the [`Plan`] of Unison's runs for a program that runs it, by the [`Roster`] of an input's profiles.
 //! - [`undecided_pairs`] are the lines for standard error: which two profiles were too large to decide.
 //! - [`Blocks`] is the text of an answer, in blocks. [`Told`] is what the answer tells, as a value for remarks on it.
 //!
@@ -31,8 +32,8 @@
 //! From `hub_serve/src/program.rt`.
 //!
 //! The contracts use the words of `specs/Report` (the text and the status of each answer; `specs/FaultyInput`, `ReachAnswer`,
-//! `Verdict`, `ClashesAnswer` and `RunAnswer` have those of its cases), `specs/Blocks` (the bytes of a text in blocks),
-//! `specs/Jobs` (the lines of jobs), `specs/Rounds` (those of clashes and rounds), `specs/RoundsRun` (the text of a run by
+//! `Verdict`, `ClashesAnswer`, `PlanAnswer` and `RunAnswer` have those of its cases), `specs/Blocks` (the bytes of a text in blocks),
+//! `specs/Jobs` (the lines of jobs), `specs/Rounds` (those of clashes and rounds), `specs/Plan` (those of plans), `specs/RoundsRun` (the text of a run by
 //! rounds), `specs/Graph` (that of a graph), `specs/Undecided` (the lines for standard error), `specs/Run` (the line of why jobs
 //! weren't run), `specs/Refusal` (the lines of refusals), `specs/Archive` (those of archives that are shared) and `specs/Faults` (the names of faults and their lines). When an answer
 //! is right is said in `hub_serve`.
@@ -60,6 +61,9 @@ mod jobs;
 mod mended;
 mod pair;
 mod parts;
+mod plan;
+mod plan_answer;
+mod plan_order;
 mod reach_answer;
 mod refusal;
 mod report;
@@ -77,6 +81,8 @@ pub use faulty_input::FaultyInput;
 pub use graph::{Graph, graph_of_clashes};
 pub use jobs::lines_of_jobs;
 pub use mended::Mended;
+pub use plan::{Plan, Roster, Unread, plan_of};
+pub use plan_answer::PlanAnswer;
 pub use reach_answer::ReachAnswer;
 pub use refusal::lines_of_clashes;
 pub use report::{OUT_OF_MEMORY, Report};

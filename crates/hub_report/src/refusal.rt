@@ -124,7 +124,7 @@ fn fault_line(
 }
 
 /// The line of a fault that shows a path, or nothing for another fault.
-fn shown_line(
+pub(crate) fn shown_line(
     alloc: Global,
     profiles: &[Profile],
     rules: &[Rule],

@@ -6,6 +6,7 @@ ghost use Rattle.hub_report.specs.Report as report;
 use crate::clashes_answer::ClashesAnswer;
 use crate::faulty_input::FaultyInput;
 use crate::mended::Mended;
+use crate::plan_answer::PlanAnswer;
 use crate::reach_answer::ReachAnswer;
 use crate::run_answer::RunAnswer;
 use crate::told::{Answer, Refusal, Told};
@@ -38,6 +39,8 @@ pub enum Report<'a> {
     Imported(Vec<u8>),
     /// No bundle says what was read: it would need more lines or longer patterns than there may be.
     NotImported,
+    /// A plan of Unison's runs.
+    Planned(PlanAnswer),
     /// Lines that make a set safe, or the bundle with them.
     Mended(Mended),
     /// The bundle with the lines that were found isn't read as it was meant. Tests show none.
@@ -67,6 +70,7 @@ impl Report<'_> {
             Report::Reach(answer) => answer.status(),
             Report::Clashes(answer) => answer.status(),
             Report::Run(answer) => answer.status(),
+            Report::Planned(answer) => answer.status(),
             Report::Mended(mended) => mended.status(),
         }
     }
@@ -106,6 +110,7 @@ impl Report<'_> {
                 "fault: no bundle says what was read\n",
                 Told::NotImported,
             ),
+            Report::Planned(answer) => answer.into_answer(alloc),
             Report::Mended(mended) => mended.into_answer(alloc),
             Report::NotMended => Answer::of_line(
                 alloc,

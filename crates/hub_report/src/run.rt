@@ -1,5 +1,5 @@
 //! What jobs did and left, or why they weren't run, and how this is written.
-ghost use Rattle.std.specs.Prelude.{◌≡◌, ◌++◌, codes, string_bytes, IfOk};
+ghost use Rattle.std.specs.Prelude.{◌≡◌, ◌++◌, string_bytes, IfOk};
 ghost use Rattle.hub_state.specs.Writing.{state_text};
 ghost use Rattle.hub_report.specs.Blocks.{bytes_in};
 ghost use Rattle.hub_report.specs.Run as runs;
@@ -13,7 +13,7 @@ use hub_state::{State, write_state};
 use hub_text::Watched;
 use std::alloc::{AllocError, Global};
 
-/// What the jobs of a safe set did, and what they left.
+/// What the jobs of a set did, and what they left.
 #[derive(Drop)]
 pub struct Run {
     /// A line for each job, and below that of a finished job a line for each of its items.
@@ -33,13 +33,13 @@ pub(crate) fn not_run(fault: &RunFault) -> NotRun {
     }
 }
 
-/// `safe`, and below it what the jobs did and the text of the state that they left.
-pub fn text_of_run(alloc: Global, run: Run) -> Result<Blocks, AllocError>
+/// The first line, and below it what the jobs did and the text of the state that they left.
+pub fn text_of_run(alloc: Global, first: &str, run: Run) -> Result<Blocks, AllocError>
     ensures { IfOk result (λ t. bytes_in t
-        ≡ codes "safe\n" ++ (string_bytes run.lines ++ state_text run.state)) }
+        ≡ first.now ++ (string_bytes run.lines ++ state_text run.state)) }
 {
     let Run { lines, state, .. } = run;
-    with_state(alloc, below_safe(lines)?, &state)
+    with_state(alloc, below(first, lines)?, &state)
 }
 
 /// These bytes, and below them the text of a state.
@@ -53,21 +53,21 @@ pub(crate) fn with_state(alloc: Global, above: Vec<u8>, state: &State) -> Result
     }
 }
 
-/// `safe`, and below it these lines, in their own memory.
-fn below_safe(lines: String) -> Result<Vec<u8>, AllocError>
-    ensures { IfOk result (λ t. t.items ≡ codes "safe\n" ++ string_bytes lines) }
+/// The first line, and below it these, in their own memory.
+fn below(first: &str, lines: String) -> Result<Vec<u8>, AllocError>
+    ensures { IfOk result (λ t. t.items ≡ first.now ++ string_bytes lines) }
 {
     let mut text = lines;
-    text.insert_str(0, "safe\n")?;
+    text.insert_str(0, first)?;
     Ok(text.into_bytes())
 }
 
-/// `safe`, and below it the line that says why the jobs weren't run.
-pub fn text_of_error(alloc: Global, fault: &RunFault) -> Result<Blocks, AllocError>
-    ensures { IfOk result (λ t. bytes_in t ≡ codes "safe\n" ++ runs.error_line fault.now) }
+/// The first line, and below it the line that says why the jobs weren't run.
+pub fn text_of_error(alloc: Global, first: &str, fault: &RunFault) -> Result<Blocks, AllocError>
+    ensures { IfOk result (λ t. bytes_in t ≡ first.now ++ runs.error_line fault.now) }
 {
     let line = error_line(alloc, fault)?;
-    Blocks::new(alloc, below_safe(line)?)
+    Blocks::new(alloc, below(first, line)?)
 }
 
 /// The line that says why jobs weren't run.

@@ -44,7 +44,7 @@ pub enum Told {
     Other,
     /// Nothing was answered, or with an empty bundle.
     Nothing,
-    /// The profiles may run at the same time or in rounds, or the answer is a graph or a bundle that was read for Unison.
+    /// The profiles may run at the same time or in rounds, jobs were run, or the answer is a graph or a bundle that was read for Unison.
     Yes,
     /// The input can't be read, or it isn't a bundle.
     Faulty(FaultyInput),

@@ -11,12 +11,15 @@ use Rattle.hub_cli.specs.Words.{Request, about, asked_of, imported, mended, read
 use Rattle.hub_report.specs.declared.report.Report.{Report}
 use Rattle.hub_report.specs.declared.clashes_answer.ClashesAnswer.{ClashesAnswer}
 use Rattle.hub_report.specs.declared.clashes_answer.ClashesAnswer.TheVariants.{Lines, Graph, Cut}
+use Rattle.hub_report.specs.declared.plan_answer.PlanAnswer.{PlanAnswer}
+use Rattle.hub_report.specs.declared.plan_answer.PlanAnswer.TheVariants.{Made, Refused, BadRules}
 use Rattle.hub_report.specs.declared.reach_answer.ReachAnswer.{ReachAnswer}
 use Rattle.hub_report.specs.declared.reach_answer.ReachAnswer.TheVariants.{Reached, NotReached, NoProfile, BadPath}
-use Rattle.hub_report.specs.declared.report.Report.TheVariants.{Reach, Clashes, Run, Mended, OutOfMemory}
+use Rattle.hub_report.specs.declared.report.Report.TheVariants.{Reach, Clashes, Run, Planned, Mended, OutOfMemory}
 use Rattle.hub_report.specs.declared.run_answer.RunAnswer.{RunAnswer}
-use Rattle.hub_report.specs.declared.run_answer.RunAnswer.TheVariants.{Ran, RanByRounds, NotRun}
+use Rattle.hub_report.specs.declared.run_answer.RunAnswer.TheVariants.{Ran, RanByRounds, RanInOrder, NotRun, NotRunInOrder}
 use Rattle.hub_report.specs.ClashesAnswer as clashes
+use Rattle.hub_report.specs.PlanAnswer as plans
 use Rattle.hub_report.specs.ReachAnswer as reach
 use Rattle.hub_report.specs.RunAnswer as run
 use Rattle.hub_report.specs.Report.{status_of}
@@ -25,11 +28,11 @@ use Rattle.hub_bundle.specs.declared.input.InputFault.TheVariants.{TurnsSpent}
 use Rattle.hub_serve.specs.Reads.{Reads}
 use Rattle.hub_serve.specs.Mended.{is_mend}
 use Rattle.hub_serve.specs.Rounds.{BeginsAsClash}
-use Rattle.hub_serve.specs.Shown.{IsWholeUnlessFailed, SpellsArchive, SpellsClashes, SpellsGraph, SpellsReach, SpellsRounds, SpellsRoundsRun}
+use Rattle.hub_serve.specs.Shown.{IsWholeUnlessFailed, SpellsArchive, SpellsClashes, SpellsGraph, SpellsPlan, SpellsReach, SpellsRounds, SpellsRoundsRun, SpellsRunInOrder}
 use Rattle.hub_serve.specs.Told.{Holds}
 use Rattle.hub_serve.specs.Serves.{ServesInFull, Answers, AnswersNothing, WritesText}
 use Rattle.hub_serve.specs.Shown.{ShowsImport, ShowsMend, TellsSafe, SpellsUnsafe, SpellsVerified}
-use Rattle.hub_serve.proofs.FirstLines.{only_safe, only_archive, only_clashes, only_graph, only_rounds, only_verified, only_overlaps, only_breaches, only_reached, only_not_reached}
+use Rattle.hub_serve.proofs.FirstLines.{only_safe, only_archive, only_clashes, only_graph, only_in_order, only_plan, only_rounds, only_verified, only_overlaps, only_breaches, only_reached, only_not_reached}
 use Rattle.hub_serve.proofs.Imports.{only_import}
 use Rattle.hub_serve.proofs.Mending.{only_mended}
 use Rattle.hub_serve.proofs.InUnison.{unreached-in_unison}
@@ -87,6 +90,18 @@ module _ (request : Request) (remaining old new : Option (List ℕ)) (reads : Re
       → SpellsGraph (Some request) bytes (codes "graph clashes {" ++ text) write_failed status
   graph-written text o a e f g =
       only_graph request bytes a.report a.text text write_failed status o a.is_text (answer-written (codes "graph clashes {" ++ text) a f g) (held a e)
+
+  in_order-written : (text : List ℕ) → is_mend request ≡ false → Answers request remaining old new reads write_failed status → remaining ≡ Some bytes → old ≡ Some before
+      → new ≡ Some (before ++ (codes "in order\n" ++ text))
+      → SpellsRunInOrder (Some request) bytes (codes "in order\n" ++ text) write_failed status
+  in_order-written text o a e f g =
+      only_in_order request bytes a.report a.text text write_failed status o a.is_text (answer-written (codes "in order\n" ++ text) a f g) (held a e)
+
+  plan-written : (text : List ℕ) → is_mend request ≡ false → Answers request remaining old new reads write_failed status → remaining ≡ Some bytes → old ≡ Some before
+      → new ≡ Some (before ++ (codes "plan 1\n" ++ text))
+      → SpellsPlan (Some request) bytes (codes "plan 1\n" ++ text) write_failed status
+  plan-written text o a e f g =
+      only_plan request bytes a.report a.text text write_failed status o a.is_text (answer-written (codes "plan 1\n" ++ text) a f g) (held a e)
 
   clashes-written : (reading : Reading) (text : List ℕ) → Answers request remaining old new reads write_failed status → Some request ≡ Some (about (ask.Clashes reading)) → remaining ≡ Some bytes → old ≡ Some before
       → new ≡ Some (before ++ text) → BeginsAsClash text → SpellsClashes reading bytes text write_failed status
@@ -156,15 +171,23 @@ clashes-le (Lines lines first) = omega arith
 clashes-le (Graph g) = decided-le g.safe
 clashes-le (Cut c) = decided-le c.decided
 
+plan-le : (a : PlanAnswer) → plans.status_of a ≤ 3
+plan-le (Made p) = decided-le p.is_whole
+plan-le (Refused line refusal) = omega arith
+plan-le (BadRules f) = omega arith
+
 run-le : (a : RunAnswer) → run.status_of a ≤ 3
 run-le (Ran r) = ends-le r.finished
 run-le (RanByRounds r) = ends-le r.finished
+run-le (RanInOrder r) = ends-le r.finished
 run-le (NotRun e) = omega arith
+run-le (NotRunInOrder e) = omega arith
 
 status-le : (r : Report) → status_of r ≤ 3
 status-le (Reach a) = reach-le a
 status-le (Clashes a) = clashes-le a
 status-le (Run a) = run-le a
+status-le (Planned a) = plan-le a
 status-le (Mended m) = decided-le m.safe
 status-le _ = omega arith
 
@@ -187,6 +210,8 @@ serves-answer overlaps breaches request remaining old new reads write_failed sta
   rounds = λ bytes text o w. rounds-written request remaining old new reads write_failed status bytes w.before text o a w.input w.kept w.written;
   graph = λ bytes text o w. graph-written request remaining old new reads write_failed status bytes w.before text o a w.input w.kept w.written;
   clashes = λ reading bytes text is w b. clashes-written request remaining old new reads write_failed status bytes w.before reading text a is w.input w.kept w.written b;
+  in_order = λ bytes text o w. in_order-written request remaining old new reads write_failed status bytes w.before text o a w.input w.kept w.written;
+  planned = λ bytes text o w. plan-written request remaining old new reads write_failed status bytes w.before text o a w.input w.kept w.written;
   imported = λ bytes text is w z. imported-written request remaining old new reads write_failed status bytes w.before text a is w.input w.kept w.written z;
   mended = λ reading as_bundle bytes text is w z. mended-written request remaining old new reads write_failed status bytes w.before reading as_bundle text a is w.input w.kept w.written z;
   reached = λ bytes text o w. reached-written request remaining old new reads write_failed status bytes w.before text o a w.input w.kept w.written;
@@ -208,6 +233,8 @@ serves-nothing remaining old new reads write_failed status a = record {
   rounds = λ bytes text o w. absurd (nothing-written old new status w.before _ 114 a refl w.kept w.written);
   graph = λ bytes text o w. absurd (nothing-written old new status w.before _ 103 a refl w.kept w.written);
   clashes = λ reading bytes text is w b. absurd (none-some (about (ask.Clashes reading)) is);
+  in_order = λ bytes text o w. absurd (nothing-written old new status w.before _ 105 a refl w.kept w.written);
+  planned = λ bytes text o w. absurd (nothing-written old new status w.before _ 112 a refl w.kept w.written);
   imported = λ bytes text is w z. absurd (none-some imported is);
   mended = λ reading as_bundle bytes text is w z. absurd (none-some (mended reading as_bundle) is);
   reached = λ bytes text o w. absurd (nothing-written old new status w.before _ 114 a refl w.kept w.written);

@@ -9,7 +9,7 @@ use Rattle.hub_bundle.specs.declared.sections.BundleContents.{BundleContents}
 use Rattle.hub_bundle.specs.Sections.{members}
 use Rattle.hub_cli.specs.declared.words.Question.{Question}
 use Rattle.hub_cli.specs.declared.words.Question.TheVariants as ask
-use Rattle.hub_cli.specs.declared.words.Question.TheVariants.{CheckWithState, Run, RunByRounds, Check, Certify, Verify}
+use Rattle.hub_cli.specs.declared.words.Question.TheVariants.{CheckWithState, Run, RunByRounds, RunInOrder, Check, Certify, Verify}
 use Rattle.hub_cli.specs.declared.words.Reading.{Reading}
 use Rattle.hub_cli.specs.Words.{Request, about, reading_for, reading_of}
 use Rattle.hub_serve.specs.declared.task.Task.{Task}
@@ -25,6 +25,7 @@ AsksAlone (task.Clashes reading) request state = request ≡ about (ask.Clashes 
 AsksAlone (task.Graph reading) request state = request ≡ about (ask.Graph reading)
 AsksAlone (task.Rounds reading) request state = request ≡ about (ask.Rounds reading)
 AsksAlone (task.RunByRounds n S) request state = (request ≡ about (RunByRounds n)) × (state ≡ Some S)
+AsksAlone (task.RunInOrder n S) request state = (request ≡ about (RunInOrder n)) × (state ≡ Some S)
 AsksAlone _ request state = ⊤
 
 -- Each of these is asked for by one question.
@@ -35,6 +36,8 @@ asks-by (Run n) None = tt
 asks-by (Run n) (Some S) = tt
 asks-by (RunByRounds n) None = tt
 asks-by (RunByRounds n) (Some S) = (refl, refl)
+asks-by (RunInOrder n) None = tt
+asks-by (RunInOrder n) (Some S) = (refl, refl)
 asks-by (Check reading) state = tt
 asks-by Certify state = tt
 asks-by Verify state = refl
@@ -55,6 +58,8 @@ read-for (Run n) None = tt
 read-for (Run n) (Some S) = refl
 read-for (RunByRounds n) None = tt
 read-for (RunByRounds n) (Some S) = refl
+read-for (RunInOrder n) None = tt
+read-for (RunInOrder n) (Some S) = refl
 read-for (Check reading) state = refl
 read-for Certify state = refl
 read-for Verify state = refl

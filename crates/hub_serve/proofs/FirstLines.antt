@@ -15,16 +15,20 @@ use Rattle.hub_report.specs.declared.report.Report.{Report}
 use Rattle.hub_report.specs.declared.report.Report.TheVariants as answer
 use Rattle.hub_report.specs.declared.clashes_answer.ClashesAnswer.{ClashesAnswer}
 use Rattle.hub_report.specs.declared.clashes_answer.ClashesAnswer.TheVariants.{Lines, Graph, Cut}
+use Rattle.hub_report.specs.declared.plan_answer.PlanAnswer.{PlanAnswer}
+use Rattle.hub_report.specs.declared.plan_answer.PlanAnswer.TheVariants.{Made, BadRules}
+use Rattle.hub_report.specs.declared.plan_answer.PlanAnswer.TheVariants as planned
 use Rattle.hub_report.specs.declared.reach_answer.ReachAnswer.{ReachAnswer}
 use Rattle.hub_report.specs.declared.reach_answer.ReachAnswer.TheVariants.{Reached, NotReached, NoProfile, BadPath}
 use Rattle.hub_report.specs.declared.run_answer.RunAnswer.{RunAnswer}
-use Rattle.hub_report.specs.declared.run_answer.RunAnswer.TheVariants.{Ran, RanByRounds, NotRun}
+use Rattle.hub_report.specs.declared.run_answer.RunAnswer.TheVariants.{Ran, RanByRounds, RanInOrder, NotRun, NotRunInOrder}
 use Rattle.hub_report.specs.declared.verdict.Verdict.{Verdict}
 use Rattle.hub_report.specs.declared.verdict.Verdict.TheVariants.{Safe, Verified, Certified}
 use Rattle.hub_report.specs.declared.run.Run as run
 use Rattle.hub_job.specs.declared.run_fault.RunFault.{RunFault}
-use Rattle.hub_report.specs.Report.{status_of, text_of}
+use Rattle.hub_report.specs.Report.{has_no_numbers, status_of, text_of}
 use Rattle.hub_report.specs.ClashesAnswer as clashes
+use Rattle.hub_report.specs.PlanAnswer as plans
 use Rattle.hub_report.specs.ReachAnswer as reach
 use Rattle.hub_report.specs.RunAnswer as runs
 use Rattle.hub_report.specs.Verdict as verdict
@@ -32,12 +36,13 @@ use Rattle.hub_report.specs.Refusal.{refusal_line}
 use Rattle.hub_report.specs.Jobs.{lines_of_jobs}
 use Rattle.hub_report.specs.Run.{error_line}
 use Rattle.hub_report.specs.laws.Starts.{HoldsOfStarts, Start, SafeStart, VerifiedStart, OverlapStart, BreachStart, TooLargeStart}
-use Rattle.hub_report.specs.laws.Starts.{RoundsStart, GraphStart, ReachedStart, NotReachedStart, ArchiveStart, OtherStart, start, begins-taken}
+use Rattle.hub_report.specs.laws.Starts.{RoundsStart, GraphStart, ReachedStart, NotReachedStart, ArchiveStart, PlanStart, OrderStart, OtherStart, start, begins-taken}
 use Rattle.hub_report.specs.laws.Starts.{lines-start, refusal-start}
 use Rattle.hub_cli.specs.declared.words.Question.{Question}
 use Rattle.hub_cli.specs.declared.words.Question.TheVariants as ask
 use Rattle.hub_cli.specs.declared.words.Reading.{Reading}
 use Rattle.hub_cli.specs.Words.{Request, about, reading_for, reading_of}
+use Rattle.hub_cli.specs.Words as question
 use Rattle.hub_serve.specs.declared.task.Task.{Task}
 use Rattle.hub_serve.specs.declared.task.Task.TheVariants as task
 use Rattle.hub_state.specs.State.{State}
@@ -46,9 +51,11 @@ use Rattle.hub_report.specs.Rounds.{clash_lines}
 use Rattle.hub_report.specs.declared.told.Refusal.{Refusal}
 use Rattle.hub_serve.specs.Unison.{archives_as}
 use Rattle.hub_serve.specs.Shown.{SpellsArchive}
-use Rattle.hub_serve.specs.Shown.{FollowsSafe, IsWholeUnlessFailed, ShowsArchive, ShowsClashes, ShowsGraph, ShowsRounds, ShowsRoundsRun}
+use Rattle.hub_serve.specs.Plans.{IsPlan, PlanHolds}
+use Rattle.hub_serve.specs.Shown.{FollowsSafe, IsWholeUnlessFailed, ShowsArchive, ShowsClashes, ShowsGraph, ShowsPlan, ShowsRounds, ShowsRoundsRun}
 use Rattle.hub_serve.specs.Told.{IsRefusedFor, IsTrueOf, Holds, SharesArchive, archives_in, may_say_safe}
-use Rattle.hub_serve.specs.Shown.{SpellsClashes, SpellsGraph, SpellsRounds, SpellsRoundsRun, TellsSafe, SpellsUnsafe, SpellsVerified}
+use Rattle.hub_serve.specs.Shown.{ShowsRunInOrder, SpellsRunInOrder}
+use Rattle.hub_serve.specs.Shown.{SpellsClashes, SpellsGraph, SpellsPlan, SpellsRounds, SpellsRoundsRun, TellsSafe, SpellsUnsafe, SpellsVerified}
 use Rattle.hub_serve.specs.Rounds.{BeginsAsClash, DrawsClashes, ListsClashes, WritesRounds}
 use Rattle.hub_serve.specs.Runs.{HasRunAs, IsBelow, IsPrevented}
 use Rattle.hub_serve.specs.Mended.{is_mend}
@@ -56,8 +63,12 @@ use Rattle.hub_serve.specs.Task.{AsksTask, reading_in}
 use Rattle.hub_serve.specs.Unison.{SpellsAs}
 use Rattle.hub_serve.proofs.BundleStart.{bundle-start}
 use Rattle.hub_serve.proofs.InUnison.{archive-in_unison, rounds-in_unison, safe-in_unison}
+use Rattle.hub_serve.proofs.Placed.{plan-places}
+use Rattle.hub_serve.proofs.PlansInUnison.{plan-in_unison}
+use Rattle.hub_serve.proofs.Planning.{unplanned-no_numbers}
 use Rattle.hub_serve.proofs.Asking.{asked-clashes, asks, reading-asked, reading-for-task, unrefused}
 use Rattle.hub_serve.proofs.Refused.{BreachesShown, OverlapsShown, breach-refused, overlap-refused}
+use Rattle.hub_serve.proofs.RunInOrder.{in_order-shown, in_order-unrun, other-is-3, run_status, zero-finished}
 
 -- Where no jobs are to be run, nothing is below `safe`.
 check-below : (t : Task) (M : Members) → may_say_safe t ≡ true → IsBelow t M 0 []
@@ -77,18 +88,6 @@ is_check _ = false
 no-check : (reading asked : Reading) (t : Task) → t ≡ task.Check reading → t ≡ task.Clashes asked → ⊥
 unfolding is_check
 no-check reading asked t is clashes = false≢true (sym (ap is_check clashes) ∙ ap is_check is)
-
--- The status of a run: 0 if all jobs are finished, else 3.
-abbrev run_status : Bool → ℕ
-run_status finished = cond finished 0 3
-
-zero-finished : (finished : Bool) → run_status finished ≡ 0 → finished ≡ true
-zero-finished true z = refl
-zero-finished false z = absurd (omega (arith, z))
-
-other-is-3 : (finished : Bool) → run_status finished ≢ 0 → run_status finished ≡ 3
-other-is-3 true other = absurd (other refl)
-other-is-3 false other = refl
 
 -- What jobs left is below `safe`,
 ran-below : (t : Task) (M : Members) (r : run.Run) → HasRunAs t M r → IsBelow t M (run_status r.finished) (string_bytes r.lines ++ state_text r.state)
@@ -126,6 +125,8 @@ Means request bytes line status GraphStart = ShowsGraph (Some request) bytes lin
 Means request bytes line status ReachedStart = IsTrueOf request bytes (answer.Reach Reached)
 Means request bytes line status NotReachedStart = IsTrueOf request bytes (answer.Reach NotReached)
 Means request bytes line status ArchiveStart = ShowsArchive (Some request) bytes line status × AreClashes request bytes line status
+Means request bytes line status PlanStart = ShowsPlan (Some request) bytes line status
+Means request bytes line status OrderStart = ShowsRunInOrder (Some request) bytes line status
 Means request bytes line status OtherStart = ⊤
 
 -- What a bundle spells as it was asked for, it spells as a request that is the same asks for.
@@ -304,6 +305,12 @@ run-means request bytes (RanByRounds r) line l h =
       text_is = l;
       status_is = refl;
     }))
+run-means request bytes (RanInOrder r) line l h =
+    subst (λ t. Means request bytes line (run_status r.finished) (start t)) (sym l)
+    (in_order-shown request bytes line h.contents h.told.to_do r l h.spelled h.told.asked h.told.told)
+run-means request bytes (NotRunInOrder f) line l h =
+    subst (λ t. Means request bytes line 3 (start t)) (sym l)
+    (in_order-unrun request bytes line h.contents h.told.to_do f l h.spelled h.told.asked h.told.told)
 run-means request bytes (NotRun f) line l h =
     safe-means request bytes line 3 h.contents h.told.to_do (error_line f) l h.spelled h.told.asked h.told.told.safe
     (run-archives h.told.to_do (members h.contents) h.told.told.workers h.told.told.state h.told.told.task_is) (error-below h.told.to_do (members h.contents) f h.told.told)
@@ -320,6 +327,34 @@ archive-means request bytes text refusal line l h =
       λ reading asks. absurd (no-check (reading_in h.told.to_do) reading h.told.to_do h.told.told.0 (asked-clashes reading request c.state h.told.to_do h.told.asked asks)),
     )
 
+-- of a plan,
+unplanned-means : (request : Request) (bytes line : List ℕ) (S : Members) (e : CheckFault) → has_no_numbers e ≡ true → Means request bytes line 1 (start (refusal_line S e))
+unplanned-means request bytes line S e none =
+    refusal-start (Means request bytes line 1) S e (record {
+      other = tt;
+      overlap = λ w o place held path is. absurd (false≢true (sym (ap has_no_numbers is) ∙ none));
+      breach = λ p k path is. absurd (false≢true (sym (ap has_no_numbers is) ∙ none));
+      too_large = λ g is. absurd (false≢true (sym (ap has_no_numbers is) ∙ none));
+    })
+
+plan-means : (request : Request) (bytes : List ℕ) (a : PlanAnswer) (line : List ℕ) → line ≡ plans.text_of a → (request ≡ question.planned) × PlanHolds bytes a
+    → Means request bytes line (plans.status_of a) (start line)
+plan-means request bytes (Made p) line l h =
+    let held : IsPlan bytes line p.is_whole = subst (λ t. IsPlan bytes t p.is_whole) (sym l) h.1 in
+    subst (λ t. Means request bytes line (cond p.is_whole 0 1) (start t)) (sym held.text_is) (record {
+      is_asked = ap Some h.0;
+      well = p.is_whole;
+      plan = held;
+      in_unison = plan-in_unison bytes line p.is_whole held;
+      placed = plan-places bytes line p.is_whole held;
+      status_is = refl;
+    })
+plan-means request bytes (planned.Refused text refusal) line l h =
+    let u = h.1 in
+    subst (λ t. Means request bytes line 1 (start t)) (sym (l ∙ u.line_is))
+    (unplanned-means request bytes line _ u.reason (unplanned-no_numbers _ u.reason u.refused))
+plan-means request bytes (BadRules f) line l h = subst (λ t. Means request bytes line 2 (start t)) (sym l) tt
+
 -- and of the start of the text of every answer.
 text-means : (request : Request) (bytes : List ℕ) (r : Report) (line : List ℕ) → is_mend request ≡ false → line ≡ text_of r → Holds request bytes r
     → Means request bytes line (status_of r) (start line)
@@ -333,6 +368,7 @@ text-means request bytes (answer.Refused text refusal) line o l h =
 text-means request bytes (answer.SameArchive text refusal) line o l h = archive-means request bytes text refusal line l h
 text-means request bytes (answer.Imported text) line o l h =
     subst (λ t. Means request bytes line 0 t) (sym (ap start l ∙ bundle-start text.items _ h.told.written)) tt
+text-means request bytes (answer.Planned a) line o l h = plan-means request bytes a line l h
 text-means request bytes (answer.Mended m) line o l h = absurd (false≢true (sym o ∙ ap is_mend h.asked))
 text-means request bytes _ line o l h = subst (λ t. Means request bytes line 2 (start t)) (sym l) tt
 
@@ -380,6 +416,22 @@ pub only_graph : (request : Request) (bytes : List ℕ) (r : Report) (line s : L
 only_graph request bytes r line s failed status other l wrote h =
     let front = begins-taken (codes "graph clashes {") line s wrote.written (sym wrote.text_is) in
     record { full = line; full_status = status_of r; is_so = means request bytes r line GraphStart other l (ap start front.whole) h; told = wrote }
+
+-- only that of a plan with a p,
+pub only_plan : (request : Request) (bytes : List ℕ) (r : Report) (line s : List ℕ) (failed : Bool) (status : ℕ) → is_mend request ≡ false → line ≡ text_of r
+    → IsWholeUnlessFailed line (status_of r) failed (codes "plan 1\n" ++ s) status → Holds request bytes r
+    → SpellsPlan (Some request) bytes (codes "plan 1\n" ++ s) failed status
+only_plan request bytes r line s failed status other l wrote h =
+    let front = begins-taken (codes "plan 1\n") line s wrote.written (sym wrote.text_is) in
+    record { full = line; full_status = status_of r; is_so = means request bytes r line PlanStart other l (ap start front.whole) h; told = wrote }
+
+-- only that of a run in order with an i,
+pub only_in_order : (request : Request) (bytes : List ℕ) (r : Report) (line s : List ℕ) (failed : Bool) (status : ℕ) → is_mend request ≡ false → line ≡ text_of r
+    → IsWholeUnlessFailed line (status_of r) failed (codes "in order\n" ++ s) status → Holds request bytes r
+    → SpellsRunInOrder (Some request) bytes (codes "in order\n" ++ s) failed status
+only_in_order request bytes r line s failed status other l wrote h =
+    let front = begins-taken (codes "in order\n") line s wrote.written (sym wrote.text_is) in
+    record { full = line; full_status = status_of r; is_so = means request bytes r line OrderStart other l (ap start front.whole) h; told = wrote }
 
 -- only that of an archive that is shared with `sam`,
 pub only_archive : (request : Request) (bytes : List ℕ) (r : Report) (line s : List ℕ) (failed : Bool) (status : ℕ) → is_mend request ≡ false → line ≡ text_of r

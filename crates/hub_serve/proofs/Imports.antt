@@ -8,7 +8,7 @@ use Rattle.hub_bundle.specs.Sections.{Spells}
 use Rattle.hub_cli.specs.declared.words.Question.{Question}
 use Rattle.hub_cli.specs.declared.words.Reading.{Reading}
 use Rattle.hub_cli.specs.declared.words.Reading.TheVariants.{Unison}
-use Rattle.hub_cli.specs.Words.{Request, about, imported, mended, reach, reading_for}
+use Rattle.hub_cli.specs.Words.{Request, about, imported, mended, planned, reach, reading_for}
 use Rattle.hub_import.specs.Imported.{contents_of}
 use Rattle.hub_profile.specs.Parts.{Parts}
 use Rattle.hub_report.specs.declared.report.Report.{Report}
@@ -27,6 +27,7 @@ abbrev is_import : Request → Bool
 is_import (about q) = false
 is_import (reach reading profile path) = false
 is_import imported = true
+is_import planned = false
 is_import (mended reading as_bundle) = false
 
 other : (request r : Request) → request ≡ imported → request ≡ r → is_import r ≡ false → ⊥
@@ -66,6 +67,7 @@ shown request bytes text (answer.Imported t) is l z h =
       in_unison = λ safe apart. apart-in_unison bytes h.contents spelled safe apart;
     }
 shown request bytes text answer.NotImported is l z h = absurd (omega (arith, z))
+shown request bytes text (answer.Planned a) is l z h = absurd (other request _ is h.0 refl)
 shown request bytes text (answer.Mended m) is l z h = absurd (other request _ is h.asked refl)
 shown request bytes text answer.NotMended is l z h = absurd (omega (arith, z))
 shown request bytes text answer.NotVerified is l z h = absurd (omega (arith, z))

@@ -3,6 +3,10 @@ pub mod Refused
 pub mod SharedPairs
 pub mod WrittenSections
 pub mod InUnison
+pub mod Beside
+pub mod PlansInUnison
+pub mod Planning
+pub mod Placed
 pub mod FirstLines
 pub mod Answered
 pub mod Short
@@ -11,6 +15,7 @@ pub mod Unsafe
 pub mod Parts
 pub mod ByRounds
 pub mod Prevented
+pub mod RunInOrder
 pub mod BundleStart
 pub mod Imports
 pub mod Mending

@@ -75,6 +75,7 @@ module _ (reading : Reading) (as_bundle : Bool) where
   shown request bytes text (answer.Run a) status is l e z h = absurd (no-task request _ _ is h.told.asked)
   shown request bytes text (answer.Imported t) status is l e z h = absurd (other request _ is h.told.asked refl)
   shown request bytes text answer.NotImported status is l e z h = absurd (omega (arith, e, z))
+  shown request bytes text (answer.Planned a) status is l e z h = absurd (other request _ is h.0 refl)
   shown request bytes text (answer.Mended m) status is l e z h = found request bytes text m status is l e h
   shown request bytes text answer.NotMended status is l e z h = absurd (omega (arith, e, z))
   shown request bytes text answer.NotVerified status is l e z h = absurd (omega (arith, e, z))

@@ -29,6 +29,9 @@ may-be (ask.Clashes reading) state t M status below is b = refl
 may-be (ask.RunByRounds n) None t M status below is b = cc
 may-be (ask.RunByRounds n) (Some S) t M status below is b =
     absurd (subst (λ u. IsBelow u M status below) (sym (same_Some (task.RunByRounds n S) t is)) b)
+may-be (ask.RunInOrder n) None t M status below is b = cc
+may-be (ask.RunInOrder n) (Some S) t M status below is b =
+    absurd (subst (λ u. IsBelow u M status below) (sym (same_Some (task.RunInOrder n S) t is)) b)
 may-be ask.Certify state t M status below is b = absurd (subst (λ u. IsBelow u M status below) (sym (same_Some task.Certify t is)) b)
 may-be ask.Verify state t M status below is b = absurd (subst (λ u. IsBelow u M status below) (sym (same_Some task.Verify t is)) b)
 may-be (ask.Graph reading) state t M status below is b = absurd (subst (λ u. IsBelow u M status below) (sym (same_Some (task.Graph reading) t is)) b)
@@ -68,6 +71,8 @@ in-short asked remaining old new reads failed status all = record {
   breach = all.breach;
   rounds = λ reading bytes text is w.
       rounds-in asked reading bytes _ failed status is (all.rounds bytes text (ap asks_mend is) w);
+  in_order = all.in_order;
+  planned = all.planned;
   imported = all.imported;
   reached = all.reached;
   not_reached = all.not_reached;

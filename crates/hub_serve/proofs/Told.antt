@@ -18,7 +18,7 @@ use Rattle.hub_state.specs.State.{State}
 use Rattle.hub_report.specs.Graph.{graph_text}
 use Rattle.hub_serve.specs.declared.task.Task.TheVariants as task
 use Rattle.hub_cli.specs.declared.words.Question.TheVariants as ask
-use Rattle.hub_cli.specs.declared.words.Question.TheVariants.{CheckWithState, Run, RunByRounds, Check}
+use Rattle.hub_cli.specs.declared.words.Question.TheVariants.{CheckWithState, Run, RunByRounds, RunInOrder, Check}
 use Rattle.hub_cli.specs.declared.words.Question.TheVariants.{Certify, Verify, Rounds}
 use Rattle.hub_cert.specs.Refused.{IsRefused}
 use Rattle.hub_cert.specs.declared.certificate.Certificate.{Certificate}
@@ -35,7 +35,7 @@ use Rattle.hub_report.specs.declared.report.Report.{Report}
 use Rattle.hub_report.specs.declared.reach_answer.ReachAnswer.TheVariants.{BadPath}
 use Rattle.hub_report.specs.declared.report.Report.TheVariants.{Faulty, Reach, NoState, Refused, SameArchive, Verdict, OutOfMemory}
 use Rattle.hub_report.specs.declared.verdict.Verdict.TheVariants.{Safe}
-use Rattle.hub_report.specs.declared.report.Report.TheVariants.{Imported, NotImported, Mended, NotMended}
+use Rattle.hub_report.specs.declared.report.Report.TheVariants.{Imported, NotImported, Planned, Mended, NotMended}
 use Rattle.hub_serve.specs.declared.task.Task.{Task}
 use Rattle.hub_report.specs.Report.{TellsArchive, TellsRefusal, has_no_numbers}
 use Rattle.hub_serve.specs.Told.{FaultOf, HasBadPath, Holds, IsTold, IsToldAnyway, IsToldOfSet, IsUnspelled, puts_apart}
@@ -79,6 +79,7 @@ set-told q c to_do is NoState h = absurd h
 set-told q c to_do is (Refused t f) h = record { to_do = to_do; asked = asks-for q c to_do is; reason = h.0; refused = inr h.1; told = h.2 }
 set-told q c to_do is (Imported t) h = absurd h
 set-told q c to_do is NotImported h = absurd h
+set-told q c to_do is (Planned a) h = absurd h
 set-told q c to_do is (Mended m) h = absurd h
 set-told q c to_do is NotMended h = absurd h
 set-told q c to_do is OutOfMemory h = tt
@@ -159,8 +160,10 @@ lacks-state CheckWithState None is = absurd (none-some (task.Check Plain) (sym i
 lacks-state CheckWithState (Some S) is = cc
 lacks-state (Run n) None is = record { workers = n; asked = inl refl; missing = refl }
 lacks-state (Run n) (Some S) is = cc
-lacks-state (RunByRounds n) None is = record { workers = n; asked = inr refl; missing = refl }
+lacks-state (RunByRounds n) None is = record { workers = n; asked = inr (inl refl); missing = refl }
 lacks-state (RunByRounds n) (Some S) is = cc
+lacks-state (RunInOrder n) None is = record { workers = n; asked = inr (inr refl); missing = refl }
+lacks-state (RunInOrder n) (Some S) is = cc
 lacks-state (Check reading) o is = cc
 lacks-state Certify o is = cc
 lacks-state Verify o is = cc
@@ -209,6 +212,7 @@ drawn reading S es archives text safe own all disproved rest sure text_is safe_i
 -- What is true of what a bundle says is true of its bytes.
 pub told-holds : (request : Request) (bytes : List ℕ) (c : BundleContents) (r : Report) → SpellsAs (reading_for request) bytes c → IsTold request c r → Holds request bytes r
 told-holds request bytes c (Faulty f) s h = absurd h
+told-holds request bytes c (Planned a) s h = absurd h
 told-holds request bytes c (Mended m) s h = absurd h
 told-holds request bytes c NotMended s h = absurd h
 told-holds request bytes c OutOfMemory s h = tt

@@ -19,6 +19,9 @@ use Rattle.hub_bundle.specs.declared.sections.SectionFault.{SectionFault}
 use Rattle.hub_bundle.specs.declared.sections.SectionFault.TheVariants.{OfProfile, OfRules, OfState}
 use Rattle.hub_unison.specs.Written.{AreWrittenAs, IsWrittenAs, Written, written_of}
 use Rattle.hub_unison.specs.laws.Lines.{profile-written}
+use Rattle.hub_profile.specs.declared.rule.Rule.{Rule}
+use Rattle.hub_serve.specs.Plans.{Takes, no_profiles, take_section, take_under, taking, with_profile, with_read, with_rules, with_unread}
+use Rattle.hub_serve.specs.declared.taken.Taken.{Taken}
 use Rattle.hub_serve.specs.Unison.{written_in, written_profile, written_under}
 
 -- One more profile is written as its section says it.
@@ -84,3 +87,52 @@ sections-written (s ∷ ss) c d Ws are e =
 pub bundle-written : (bytes : List ℕ) (c : BundleContents) (h : Spells bytes c) → AreWrittenAs (written_in h.sections) c.profiles
 bundle-written bytes c h =
     sections-written h.sections no_contents c [] (record { count = refl; each = λ i W at. absurd (none-some W at) }) h.contents
+
+-- So are those that a plan takes of it.
+pub taken-ok : (r : Result Taken SectionFault) (t u : Taken) → r ≡ Ok t → r ≡ Ok u → t ≡ u
+taken-ok r t u e f = cc
+
+rules-kept : (t : Taken) (r : Result (List Rule) ProfileFault) (x : Taken) → with_rules t r ≡ Ok x → x.profiles ≡ t.profiles
+rules-kept t (Ok Rs) x e = ap (λ (y : Taken). y.profiles) (sym (taken-ok (with_rules t (Ok Rs)) (record t { rules = Rs }) x refl e))
+rules-kept t (Err f) x e = cc
+
+after-taken : (h : Heading) (bytes : List ℕ) (t : Taken) (Ws : List Written) → AreWrittenAs Ws t.profiles → (x : Taken) → take_under t h bytes ≡ Ok x
+    → AreWrittenAs (Ws ++ written_under h bytes) x.profiles
+after-taken (heading.Profile name) bytes t Ws are x e = go (profile_in name bytes) refl (taken-ok (take_under t (heading.Profile name) bytes) (with_profile t name (profile_in name bytes)) x refl e)
+  where
+    go : (r : Result Parts ProfileFault) → profile_in name bytes ≡ r → with_profile t name (profile_in name bytes) ≡ x → AreWrittenAs (Ws ++ written_profile (profile_in name bytes) bytes) x.profiles
+    go (Ok P) is f =
+        let same : with_read t name P ≡ x = sym (ap (with_profile t name) is) ∙ f in
+        subst (λ (s : Result Parts ProfileFault). AreWrittenAs (Ws ++ written_profile s bytes) x.profiles) (sym is)
+        (subst (λ (y : Taken). AreWrittenAs (Ws ++ written_of P bytes ∷ []) y.profiles) same
+        (one-more-written Ws t.profiles (written_of P bytes) P are (profile-written name bytes P is)))
+    go (Err g) is f =
+        let same : with_unread t name g ≡ x = sym (ap (with_profile t name) is) ∙ f in
+        subst (λ (s : Result Parts ProfileFault). AreWrittenAs (Ws ++ written_profile s bytes) x.profiles) (sym is)
+        (no-more-written Ws t.profiles x.profiles are (ap (λ (y : Taken). y.profiles) (sym same)))
+after-taken heading.Rules bytes t Ws are x e = no-more-written Ws t.profiles x.profiles are (rules-kept t (rules_in bytes) x e)
+after-taken heading.State bytes t Ws are x e =
+    no-more-written Ws t.profiles x.profiles are (ap (λ (y : Taken). y.profiles) (sym (taken-ok (take_under t heading.State bytes) t x refl e)))
+after-taken heading.Certificates bytes t Ws are x e =
+    no-more-written Ws t.profiles x.profiles are (ap (λ (y : Taken). y.profiles) (sym (taken-ok (take_under t heading.Certificates bytes) t x refl e)))
+
+pub record TakesOn (r : Result Taken SectionFault) (f : Taken → Result Taken SectionFault) (u : Taken) : Type 0 where
+  pub x : Taken
+  pub first : r ≡ Ok x
+  pub rest : f x ≡ Ok u
+
+pub takes-on : (r : Result Taken SectionFault) (f : Taken → Result Taken SectionFault) (u : Taken) → and_then r f ≡ Ok u → TakesOn r f u
+takes-on (Ok x) f u e = record { x = x; first = refl; rest = e }
+takes-on (Err g) f u e = cc
+
+sections-taken : (sections : List SectionValue) (t u : Taken) (Ws : List Written) → AreWrittenAs Ws t.profiles → taking t sections ≡ Ok u
+    → AreWrittenAs (Ws ++ written_in sections) u.profiles
+sections-taken [] t u Ws are e = no-more-written Ws t.profiles u.profiles are (ap (λ (y : Taken). y.profiles) (sym (taken-ok (taking t []) t u refl e)))
+sections-taken (s ∷ ss) t u Ws are e =
+    let w = takes-on (take_section t s) (λ y. taking y ss) u e in
+    subst (λ (Vs : List Written). AreWrittenAs Vs u.profiles) (append_assoc Ws (written_under s.heading s.bytes) (written_in ss))
+    (sections-taken ss w.x u (Ws ++ written_under s.heading s.bytes) (after-taken s.heading s.bytes t Ws are w.x w.first) w.rest)
+
+pub taken-written : (counted : List ℕ) (t : Taken) (h : Takes counted t) → AreWrittenAs (written_in h.sections) t.profiles
+taken-written counted t h =
+    sections-taken h.sections no_profiles t [] (record { count = refl; each = λ i W at. absurd (none-some W at) }) h.taken

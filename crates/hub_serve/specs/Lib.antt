@@ -5,7 +5,9 @@ pub mod Rounds
 pub mod Reached
 pub mod Unison
 pub mod ByRounds
+pub mod InOrder
 pub mod Mended
+pub mod Plans
 pub mod Serves
 pub mod Told
 pub mod Shown

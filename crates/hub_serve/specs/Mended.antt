@@ -1,7 +1,7 @@
 -- What a bundle says with lines that were found for its profiles.
 use Rattle.std.specs.Prelude.{◌≡◌, ℕ, Bool, true, false, List, ◌++◌, Option, Some, None, if◌then◌else◌}
 use Rattle.hub_bundle.specs.declared.sections.BundleContents.{BundleContents}
-use Rattle.hub_cli.specs.Words.{Request, about, imported, mended, reach}
+use Rattle.hub_cli.specs.Words.{Request, about, imported, mended, planned, reach}
 use Rattle.hub_cli.specs.declared.words.Reading.{Reading}
 use Rattle.hub_mend.specs.Additions.{mended_text, own_text, shown_lines}
 use Rattle.hub_mend.specs.TakesAway.{AllTakeAway}
@@ -13,6 +13,7 @@ abbrev pub is_mend : Request → Bool
 is_mend (about question) = false
 is_mend (reach reading profile path) = false
 is_mend imported = false
+is_mend planned = false
 is_mend (mended reading as_bundle) = true
 
 abbrev pub asks_mend : Option Request → Bool

@@ -25,6 +25,12 @@ pub record IsRunOn (M : Members) (S : State) (o : Outcome) : Type 0 where
   pub promised : IsPromisedOf M S o
   pub ended : HaveEnded o.jobs
 
+-- That is what is said of the jobs of profiles with this outcome, and the state that they left.
+pub record TellsOutcome (Ps : List Parts) (o : Outcome) (r : Run) : Type 0 where
+  pub lines : string_bytes r.lines ≡ lines_of_jobs Ps o.jobs
+  pub left : r.state ≡ o.state
+  pub finished : r.finished ≡ true ↔ AreFinished o.jobs
+
 -- They were run on this state: that is what is said of them, and the state that they left.
 pub record HasRun (M : Members) (S : State) (r : Run) : Type 0 where
   pub outcome : Outcome
@@ -93,6 +99,7 @@ IsBelow (task.Check reading) M status below = (status ≡ 0) × (below ≡ [])
 IsBelow (task.RunJobs n S) M status below =
     (MayRun S M.profiles n × WritesRun M S status below) ⊎ WritesError M S n status below
 IsBelow (task.RunByRounds n S) M status below = ⊥
+IsBelow (task.RunInOrder n S) M status below = ⊥
 IsBelow task.Certify M status below = ⊥
 IsBelow task.Verify M status below = ⊥
 IsBelow (task.Clashes reading) M status below = (status ≡ 0) × (below ≡ [])

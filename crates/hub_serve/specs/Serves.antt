@@ -15,7 +15,7 @@ use Rattle.hub_report.specs.Report.{says_read_failed, status_of, text_of, unread
 use Rattle.hub_serve.specs.Reads.{AreSpent, Reads, reads_between}
 use Rattle.hub_serve.specs.Rounds.{BeginsAsClash}
 use Rattle.hub_serve.specs.Told.{Holds}
-use Rattle.hub_serve.specs.Shown.{TellsSafe, SpellsSafe, SpellsUnsafe, SpellsVerified, SpellsClashes, SpellsRounds, SpellsGraph, SpellsRoundsRun, SpellsArchive, ShowsImport, SpellsReach, ShowsMend}
+use Rattle.hub_serve.specs.Shown.{TellsSafe, SpellsSafe, SpellsUnsafe, SpellsVerified, SpellsClashes, SpellsRounds, SpellsGraph, SpellsRoundsRun, SpellsRunInOrder, SpellsArchive, SpellsPlan, ShowsImport, SpellsReach, ShowsMend}
 use Rattle.hub_text.specs.declared.watched.Watched.{Watched}
 
 -- A text was written to an output, whole unless a call of the output failed: then a prefix of it,
@@ -93,6 +93,17 @@ pub record Serves (asked : Option Request) (remaining old new : Option (List ℕ
       → asked ≡ Some (question.about (ask.Rounds reading))
       → Begins remaining old new (codes "rounds ") bytes text
       → SpellsRounds asked bytes (codes "rounds " ++ text) failed status
+  -- `in order` is written only if they ask for a run in order. What follows it is what the jobs of the
+  -- set that the input spells did, and the state that they left: what they leave one after another, in
+  -- the order of their profiles, of the input's state (`IsSerial`). Or it says why they weren't run.
+  pub in_order : (bytes text : List ℕ) → asks_mend asked ≡ false
+      → Begins remaining old new (codes "in order\n") bytes text
+      → SpellsRunInOrder asked bytes (codes "in order\n" ++ text) failed status
+  -- `plan 1` is written only for `plan`, and two of the input's own profiles that are read and that
+  -- it doesn't set apart don't clash in Unison.
+  pub planned : (bytes text : List ℕ) → asks_mend asked ≡ false
+      → Begins remaining old new (codes "plan 1\n") bytes text
+      → SpellsPlan asked bytes (codes "plan 1\n" ++ text) failed status
   -- What is written for `import` with status 0 is a bundle that says, read plainly, what the input
   -- says for Unison.
   pub imported : (bytes text : List ℕ) → asked ≡ Some question.imported
@@ -151,6 +162,17 @@ pub record ServesInFull (asked : Option Request) (remaining old new : Option (Li
       → asked ≡ Some (question.about (ask.Clashes reading))
       → Begins remaining old new [] bytes text → BeginsAsClash text
       → SpellsClashes reading bytes text write_failed status
+  -- `in order` is written only if they ask for a run in order. What follows it is what the jobs of the
+  -- set that the input spells did, and the state that they left: what they leave one after another, in
+  -- the order of their profiles, of the input's state (`IsSerial`). Or it says why they weren't run.
+  pub in_order : (bytes text : List ℕ) → asks_mend asked ≡ false
+      → Begins remaining old new (codes "in order\n") bytes text
+      → SpellsRunInOrder asked bytes (codes "in order\n" ++ text) write_failed status
+  -- `plan 1` is written only for `plan`, and two of the input's own profiles that are read and that
+  -- it doesn't set apart don't clash in Unison.
+  pub planned : (bytes text : List ℕ) → asks_mend asked ≡ false
+      → Begins remaining old new (codes "plan 1\n") bytes text
+      → SpellsPlan asked bytes (codes "plan 1\n" ++ text) write_failed status
   -- What is written for `import` with status 0 is a bundle that says, read plainly, what the input
   -- says for Unison.
   pub imported : (bytes text : List ℕ) → asked ≡ Some question.imported

@@ -1,5 +1,5 @@
 -- What the first line of what is written shows of the input.
-use Rattle.std.specs.Prelude.{◌≡◌, ◌<◌, ◌++◌, ℕ, Bool, true, false, if◌then◌else◌, List, take, Option, Some, slice_get}
+use Rattle.std.specs.Prelude.{◌≡◌, ◌<◌, ◌++◌, ℕ, Bool, true, false, if◌then◌else◌, List, [], ◌∷◌, take, Option, Some, codes, slice_get}
 use Rattle.hub_profile.specs.Parts.{Parts}
 use Rattle.hub_cert.specs.Set.{IsSafeSet}
 use Rattle.hub_cert.specs.Verdict.{AreInductive}
@@ -21,11 +21,16 @@ use Rattle.hub_report.specs.Archive.{archive_line}
 use Rattle.hub_report.specs.RoundsRun.{rounds_run_text}
 use Rattle.hub_report.specs.declared.rounds_run.RoundsRun.{RoundsRun}
 use Rattle.hub_state.specs.State.{State}
+use Rattle.hub_starter.specs.Waves.{NoneBreaks}
 use Rattle.hub_serve.specs.ByRounds.{HasRunByRounds}
+use Rattle.hub_serve.specs.InOrder.{IsBelowInOrder}
 use Rattle.hub_serve.specs.Rounds.{DrawsClashes, ListsClashes, WritesRounds}
 use Rattle.hub_serve.specs.Runs.{IsBelow}
-use Rattle.hub_unison.specs.Shared.{ShareNoArchive, is_shared}
-use Rattle.hub_serve.specs.Unison.{SpellsAs, SpellsRoundInUnison, SpellsSafeInUnison, SpellsUnreachedInUnison}
+use Rattle.hub_serve.specs.Plans.{IsApart, IsPlan, PlacesEach}
+use Rattle.hub_unison.specs.Shared.{ShareNoArchive, is_shared, shared_pairs}
+use Rattle.hub_unison.specs.UnisonReach.{IsSafeInUnison}
+use Rattle.hub_unison.specs.Written.{Written}
+use Rattle.hub_serve.specs.Unison.{SpellsAs, SpellsRoundInUnison, SpellsSafeInUnison, SpellsUnreachedInUnison, written_in}
 use Rattle.hub_serve.specs.Task.{task_of}
 use Rattle.hub_serve.specs.Told.{ReachIs, SaysOfMended}
 
@@ -126,6 +131,24 @@ pub record ShowsRounds (asked : Option Request) (bytes text : List ℕ) (status 
 abbrev pub SpellsRounds : Option Request → List ℕ → List ℕ → Bool → ℕ → Type 0
 SpellsRounds asked bytes = TellsUnlessFailed (ShowsRounds asked bytes)
 
+-- The words ask for a plan, and this is that of the bundle. If it doesn't say of two own profiles
+-- that are read that they may not run at the same time, these don't clash in Unison, share no
+-- archive and have no nested roots. Each profile is in the order, or is refused. The status is 0 if
+-- none is refused, else 1.
+pub record ShowsPlan (asked : Option Request) (bytes text : List ℕ) (status : ℕ) : Type 0 where
+  pub is_asked : asked ≡ Some question.planned
+  pub well : Bool
+  pub plan : IsPlan bytes text well
+  pub in_unison : (i j : ℕ) (V W : Written) → i < j
+      → slice_get (written_in plan.takes.sections) i ≡ Some V
+      → slice_get (written_in plan.takes.sections) j ≡ Some W
+      → (IsApart plan.lines (shared_pairs plan.readings) i j → ⊥) → IsSafeInUnison (V ∷ W ∷ [])
+  pub placed : PlacesEach plan.own.roster plan.own.rules plan.lines
+  pub status_is : status ≡ (if well then 0 else 1)
+
+abbrev pub SpellsPlan : Option Request → List ℕ → List ℕ → Bool → ℕ → Type 0
+SpellsPlan asked bytes = TellsUnlessFailed (ShowsPlan asked bytes)
+
 -- They ask for a graph of what clashes, and its set is drawn so. The status is 0 if it is safe, else
 -- 1.
 pub record ShowsGraph (asked : Option Request) (bytes text : List ℕ) (status : ℕ) : Type 0 where
@@ -158,6 +181,25 @@ pub record ShowsRoundsRun (asked : Option Request) (bytes text : List ℕ) (stat
 
 abbrev pub SpellsRoundsRun : Option Request → List ℕ → List ℕ → Bool → ℕ → Type 0
 SpellsRoundsRun asked bytes = TellsUnlessFailed (ShowsRoundsRun asked bytes)
+
+-- The words ask for a run in order, and the bytes are a bundle on whose state the jobs of its set are
+-- to be run so. No profile breaks a rule of the set. The text says what the jobs did and the state that
+-- they left, which is what they leave one after another, in the order of their profiles; or why they
+-- weren't run. The status is 0 if each job is finished, else 3.
+pub record ShowsRunInOrder (asked : Option Request) (bytes text : List ℕ) (status : ℕ) : Type 0 where
+  pub workers : ℕ
+  pub is_asked : asked ≡ Some (question.about (ask.RunInOrder workers))
+  pub contents : BundleContents
+  pub spelled : Spells bytes contents
+  pub state : State
+  pub state_is : contents.state ≡ Some state
+  pub rules : NoneBreaks (members contents)
+  pub below : List ℕ
+  pub text_is : text ≡ codes "in order\n" ++ below
+  pub is_below : IsBelowInOrder (members contents) state workers status below
+
+abbrev pub SpellsRunInOrder : Option Request → List ℕ → List ℕ → Bool → ℕ → Type 0
+SpellsRunInOrder asked bytes = TellsUnlessFailed (ShowsRunInOrder asked bytes)
 
 -- The text is a bundle. Read plainly, it says the readings for Unison of the profiles that the
 -- bytes spell, and their rules, and neither a state nor certificates. If these are a safe set and no

@@ -2,7 +2,7 @@
 use Rattle.std.specs.Prelude.{◌≡◌, ◌⊎◌, ℕ, Option, Some, None}
 use Rattle.hub_state.specs.State.{State}
 use Rattle.hub_cli.specs.declared.words.Question.{Question}
-use Rattle.hub_cli.specs.declared.words.Question.TheVariants.{CheckWithState, Run, RunByRounds, Check}
+use Rattle.hub_cli.specs.declared.words.Question.TheVariants.{CheckWithState, Run, RunByRounds, RunInOrder, Check}
 use Rattle.hub_cli.specs.declared.words.Question.TheVariants.{Certify, Verify, Clashes, Graph, Rounds}
 use Rattle.hub_cli.specs.declared.words.Reading.{Reading}
 use Rattle.hub_cli.specs.declared.words.Reading.TheVariants.{Plain}
@@ -20,6 +20,8 @@ task_of (Run n) None = None
 task_of (Run n) (Some S) = Some (task.RunJobs n S)
 task_of (RunByRounds n) None = None
 task_of (RunByRounds n) (Some S) = Some (task.RunByRounds n S)
+task_of (RunInOrder n) None = None
+task_of (RunInOrder n) (Some S) = Some (task.RunInOrder n S)
 task_of (Check reading) state = Some (task.Check reading)
 task_of Certify state = Some task.Certify
 task_of Verify state = Some task.Verify
@@ -41,8 +43,10 @@ pub record AsksTask (request : Request) (state : Option State) (t : Task) : Type
   pub asked : request ≡ about of_set
   pub task_is : task_of of_set state ≡ Some t
 
--- It was asked for a run by so many workers, by rounds or not, of a bundle that has no state.
+-- It was asked for a run by so many workers, by rounds, in order or neither, of a bundle that has no
+-- state.
 pub record LacksState (request : Request) (state : Option State) : Type 0 where
   pub workers : ℕ
   pub asked : (request ≡ about (Run workers)) ⊎ (request ≡ about (RunByRounds workers))
+      ⊎ (request ≡ about (RunInOrder workers))
   pub missing : state ≡ None

@@ -36,13 +36,15 @@ use Rattle.hub_report.specs.declared.reach_answer.ReachAnswer.{ReachAnswer}
 use Rattle.hub_report.specs.declared.reach_answer.ReachAnswer.TheVariants.{Reached, NotReached}
 use Rattle.hub_report.specs.declared.reach_answer.ReachAnswer.TheVariants.{NoProfile, BadPath}
 use Rattle.hub_report.specs.declared.run_answer.RunAnswer.{RunAnswer}
-use Rattle.hub_report.specs.declared.run_answer.RunAnswer.TheVariants.{Ran, RanByRounds, NotRun}
+use Rattle.hub_report.specs.declared.run_answer.RunAnswer.TheVariants.{Ran, RanByRounds, RanInOrder}
+use Rattle.hub_report.specs.declared.run_answer.RunAnswer.TheVariants.{NotRun, NotRunInOrder}
 use Rattle.hub_report.specs.declared.verdict.Verdict.{Verdict}
 use Rattle.hub_report.specs.declared.verdict.Verdict.TheVariants.{Safe, Verified, Certified}
 use Rattle.hub_serve.specs.declared.task.Task.{Task}
 use Rattle.hub_serve.specs.declared.task.Task.TheVariants as task
 use Rattle.hub_serve.specs.Reached.{first_named}
 use Rattle.hub_serve.specs.Mended.{Mends, asks_mend, mend_text}
+use Rattle.hub_serve.specs.Plans.{PlanHolds}
 use Rattle.hub_mend.specs.Additions.{line_count, safe_line}
 use Rattle.hub_mend.specs.declared.piece.Piece.{Piece}
 use Rattle.hub_report.specs.Archive.{archive_line}
@@ -51,6 +53,7 @@ use Rattle.hub_report.specs.declared.mended.Mended.{Mended}
 use Rattle.hub_import.specs.Imported.{contents_of}
 use Rattle.hub_report.specs.Report.{TellsRefusal}
 use Rattle.hub_serve.specs.ByRounds.{HasRunByRoundsAs, IsFirstAlone, RunsByRounds}
+use Rattle.hub_serve.specs.InOrder.{HasRunInOrderAs, IsPreventedInOrder, IsUndecidedInOrder}
 use Rattle.hub_serve.specs.Rounds.{DrawsClashes, HasUnverifiedRound, IsCut, ListsClashes}
 use Rattle.hub_serve.specs.Runs.{HasRunAs, IsPrevented}
 use Rattle.hub_serve.specs.Unison.{SpellsAs, archives_as, counted_as}
@@ -98,6 +101,7 @@ abbrev pub FaultOf : Task → Members → List Certificate → CheckFault → Ty
 FaultOf (task.Check reading) S cs e = (e ≡ fault.OutOfMemory) ⊎ IsFirstFault S e
 FaultOf (task.RunJobs n state) S cs e = (e ≡ fault.OutOfMemory) ⊎ IsFirstFault S e
 FaultOf (task.RunByRounds n state) S cs e = IsFirstAlone S e
+FaultOf (task.RunInOrder n state) S cs e = IsFirstAlone S e
 FaultOf task.Certify S cs e = (e ≡ fault.OutOfMemory) ⊎ IsFirstFault S e
 FaultOf task.Verify S cs e = Refuses S cs e
 FaultOf (task.Clashes reading) S cs e = ⊥
@@ -151,7 +155,9 @@ pub record SharesArchive (reading : Reading) (S : Members) (line : List ℕ) : T
 abbrev pub CameOfRun : Task → Members → RunAnswer → Type 0
 CameOfRun t S (Ran r) = HasRunAs t S r
 CameOfRun t S (RanByRounds r) = HasRunByRoundsAs t S r
+CameOfRun t S (RanInOrder r) = HasRunInOrderAs t S r
 CameOfRun t S (NotRun e) = IsPrevented t S e
+CameOfRun t S (NotRunInOrder e) = IsPreventedInOrder t S e
 
 -- or any answer. The others are not answers about a set that was made.
 abbrev pub IsToldOfSet : Task → Members → List Certificate → Report → Type 0
@@ -163,7 +169,8 @@ IsToldOfSet t S cs (answer.Refused text refusal) =
 IsToldOfSet t S cs (answer.SameArchive line refusal) =
     (t ≡ task.Check (reading_in t)) × SharesArchive (reading_in t) S (string_bytes line)
 IsToldOfSet t S cs answer.NotVerified =
-    ((t ≡ task.Rounds (reading_in t)) ⊎ RunsByRounds t) × HasUnverifiedRound (reading_in t) S
+    (((t ≡ task.Rounds (reading_in t)) ⊎ RunsByRounds t) × HasUnverifiedRound (reading_in t) S)
+    ⊎ IsUndecidedInOrder t S
 IsToldOfSet t S cs answer.OutOfMemory = ⊤
 IsToldOfSet t S cs _ = ⊥
 
@@ -224,6 +231,7 @@ IsTold request c (answer.Reach a) = IsToldOfReach request c.profiles a
 IsTold request c answer.NoState = LacksState request c.state
 IsTold request c (answer.Imported text) = IsImported request c text.items
 IsTold request c answer.NotImported = request ≡ question.imported
+IsTold request c (answer.Planned a) = ⊥
 IsTold request c (answer.Mended m) = ⊥
 IsTold request c answer.NotMended = ⊥
 IsTold request c (answer.Refused t f) = IsToldRefused request c (answer.Refused t f)
@@ -291,6 +299,7 @@ IsUnspelled counted _ = ⊥
 abbrev pub Holds : Request → List ℕ → Report → Type 0
 Holds request bytes (answer.Faulty f) = IsFaulty (reading_for request) bytes f
 Holds request bytes answer.OutOfMemory = ⊤
+Holds request bytes (answer.Planned a) = (request ≡ question.planned) × PlanHolds bytes a
 Holds request bytes (answer.Mended m) = IsMended request bytes m
 Holds request bytes answer.NotMended = asks_mend (Some request) ≡ true
 Holds request bytes r = IsTrueOf request bytes r

@@ -10,6 +10,7 @@ ghost use Rattle.hub_serve.specs.Unison.{IsReadAs, SpellsAs, SpellsCounted};
 
 use crate::import::report_on_import;
 use crate::mend::report_on_mend;
+use crate::plan::report_on_plan;
 use crate::progress::Progress;
 use crate::reach::report_on_reach;
 use crate::reading::{counted_as, read_as};
@@ -65,6 +66,7 @@ fn report_on_bytes<'a, T: Threads + Wait + Sync, P: Progress + Sync>(
 {
     match asked {
         Query::About(question) => report_on_question(rt, alloc, question, bytes, progress),
+        Query::Plan => report_on_plan(alloc, bytes),
         Query::Mend { reading, as_bundle } => {
             report_on_mend(rt, alloc, reading, as_bundle, bytes, progress)
         }
@@ -167,7 +169,7 @@ fn own_contents<'a>(alloc: Global, bytes: Vec<u8>) -> Result<BundleContents, Rep
 }
 
 /// The answer if the bundle is read with that fault.
-fn bad_bundle<'a>(fault: BundleLineFault) -> Report<'a>
+pub(crate) fn bad_bundle<'a>(fault: BundleLineFault) -> Report<'a>
     ensures memory { fault ≡ bundle.out_of_memory → result ≡ Report.OutOfMemory }
     ensures fault { (result ≡ Report.OutOfMemory)
         ⊎ (result ≡ Report.Faulty (FaultyInput.BadBundle fault)) }

@@ -50,7 +50,7 @@ pub fn report_on_run_by_rounds<'a, T: Threads + Wait + Sync, P: Progress + Sync>
 }
 
 /// The first line that says why a profile is in no round.
-fn first_alone(lines: &[CheckFault]) -> Option<&CheckFault>
+pub(crate) fn first_alone(lines: &[CheckFault]) -> Option<&CheckFault>
     ensures { option_map (λ e. e.now) result ≡ find spec.leaves_out lines.now }
 {
     lines.iter().find(|line| leaves_out(line))

@@ -18,16 +18,18 @@
 //!   profile is asked whether it reaches a path (`reach`).
 //! - Or all that clashes in the set is listed or drawn, or it is cut into rounds (`rounds`). Or a bundle is written of what was read
 //!   for Unison (`import`).
+//! - Or a plan is made of Unison's runs. What it takes of the sections is in `taken`: there a faulty profile keeps no other from being
+//!   read. How it goes on is in `plan`.
 //! - Or lines are found that make the set safe (`hub_mend`), and the bundle with them is read again and checked (`mend`).
 //! - The jobs of a safe set are run on the bundle's state (`run`), or the rounds of a set are run one after another
-//!   (`by_rounds`).
+//!   (`by_rounds`), or the jobs of any set as if one after another (`in_order`).
 //! - The answer is a `Report` of `hub_report`. It is written as one line, as the certificates' text, or as `safe` and below it
 //!   what the jobs did and the state that they left (`program`).
 //!
 //! The contracts use the words of `specs/Serves` (what the program does as a whole), `specs/Told` (which answer is right),
 //! `specs/Shown` (what a first line shows), `specs/Reads` (the reads of the input), `specs/Unison` (what is spelled if the profiles
-//! are read for Unison), `specs/Mended` (what is spelled with lines that were found), `specs/Task` (what is to be done), `specs/Runs`
-//! (what is written of a run), `specs/ByRounds` (what a run by rounds does and leaves) and `specs/Rounds` (what is written of
+//! are read for Unison), `specs/Mended` (what is spelled with lines that were found), `specs/Plans` (what a plan says), `specs/Task` (what is to be done), `specs/Runs`
+//! (what is written of a run), `specs/ByRounds` (what a run by rounds does and leaves), `specs/InOrder` (what a run in order does and leaves) and `specs/Rounds` (what is written of
 //! clashes and rounds).
 //!
 //! Only functions that return a `Result` or a `Report`, or write an answer, allocate.
@@ -47,14 +49,17 @@
 mod answer;
 mod by_rounds;
 mod import;
+mod in_order;
 pub mod laws;
 mod mend;
+mod plan;
 mod program;
 mod progress;
 mod reach;
 mod reading;
 mod rounds;
 mod run;
+mod taken;
 mod task;
 mod verdict;
 

@@ -89,8 +89,17 @@ fn new_contents<'a>(
                 Err(Report::NotMended)
             }
         }
-        Err(Report::OutOfMemory) => Err(Report::OutOfMemory),
-        Err(_) => Err(Report::NotMended),
+        Err(report) => Err(unmended(&report)),
+    }
+}
+
+/// The answer that no lines mend a bundle, where the bundle with lines has this one instead of what it says; or that memory is out.
+fn unmended<'a>(report: &Report<'_>) -> Report<'a>
+    ensures { (result ≡ Report.OutOfMemory) ⊎ (result ≡ Report.NotMended) }
+{
+    match report {
+        Report::OutOfMemory => Report::OutOfMemory,
+        _ => Report::NotMended,
     }
 }
 

@@ -1,13 +1,11 @@
 //! Runs of the jobs of a safe set.
-ghost use Rattle.std.specs.Prelude.{◌≡◌, ◌↔◌, ℕ, true, IfErr, IfOk, None};
-ghost use Rattle.hub_cert.specs.Set.{IsSafeSet, Members};
-ghost use Rattle.hub_state.specs.State.{State};
-ghost use Rattle.hub_schedule.specs.Simulated.{AreFinished, HaveEnded};
-ghost use Rattle.hub_runner.specs.Working.{IsNotRun, MayRun};
+ghost use Rattle.std.specs.Prelude.{◌≡◌, ◌↔◌, true, IfOk, None};
+ghost use Rattle.hub_cert.specs.Set.{IsSafeSet};
+ghost use Rattle.hub_schedule.specs.Simulated.{AreFinished};
 ghost use Rattle.hub_report.specs.Report.{unread_by};
 ghost use Rattle.hub_serve.specs.Told.{IsToldAnyway};
 ghost use Rattle.hub_serve.specs.Runs as runs;
-ghost use Rattle.hub_serve.specs.Runs.{ComesOf, HasRun, IsPromisedOf, IsRunOn, OfUnrun};
+ghost use Rattle.hub_serve.specs.Runs.{ComesOf, OfUnrun, TellsOutcome};
 ghost use Rattle.hub_serve.specs.declared.task.Task.TheVariants as task;
 
 use crate::progress::{Jobs, Progress};
@@ -77,9 +75,12 @@ pub(crate) fn run_jobs<T: Threads + Wait + Sync, P: Progress + Sync>(
 }
 
 /// What the profiles' jobs did, and the state that they left.
-fn run_of(alloc: Global, profiles: &[Profile], outcome: Outcome) -> Result<Run, AllocError>
-    ensures { (M : Members) (S : State) → profiles.now ≡ M.profiles → IsRunOn M S outcome
-        → IfOk result (HasRun M S) }
+pub(crate) fn run_of(
+    alloc: Global,
+    profiles: &[Profile],
+    outcome: Outcome,
+) -> Result<Run, AllocError>
+    ensures { IfOk result (TellsOutcome profiles.now outcome) }
 {
     let finished = are_finished(outcome.jobs.as_slice());
     let lines = lines_of_jobs(alloc, profiles, outcome.jobs.as_slice())?;

@@ -24,6 +24,13 @@ pub enum Task {
         /// The state.
         state: State,
     },
+    /// To run its jobs on this state, as if one after another.
+    RunInOrder {
+        /// The number of workers.
+        workers: u8,
+        /// The state.
+        state: State,
+    },
     /// To write certificates for its goals.
     Certify,
     /// To say whether the bundle's certificates show that it is safe.
@@ -53,7 +60,11 @@ impl Task {
                 workers,
                 state,
             }),
-            (Question::Run(_) | Question::RunByRounds(_), None) => None,
+            (Question::RunInOrder(workers), Some(state)) => Some(Task::RunInOrder {
+                workers,
+                state,
+            }),
+            (Question::Run(_) | Question::RunByRounds(_) | Question::RunInOrder(_), None) => None,
             (Question::Certify, _) => Some(Task::Certify),
             (Question::Verify, _) => Some(Task::Verify),
             (Question::Clashes(reading), _) => Some(Task::Clashes(reading)),

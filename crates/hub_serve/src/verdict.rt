@@ -10,6 +10,7 @@ ghost use Rattle.hub_serve.specs.declared.task.Task.{Task};
 ghost use Rattle.hub_serve.specs.declared.task.Task.TheVariants as task;
 
 use crate::by_rounds::report_on_run_by_rounds;
+use crate::in_order::report_on_run_in_order;
 use crate::progress::{Goals, Progress};
 use crate::reading::archives_as;
 use crate::rounds::{report_on_clashes, report_on_graph, report_on_rounds, report_on_rounds_apart};
@@ -96,6 +97,9 @@ fn report_on_made<'a, T: Threads + Wait + Sync, P: Progress + Sync>(
         }
         Task::RunByRounds { workers, state } => {
             report_on_run_by_rounds(rt, alloc, set, state, workers, progress)
+        }
+        Task::RunInOrder { workers, state } => {
+            report_on_run_in_order(rt, alloc, &set, &state, workers, progress)
         }
         Task::Certify => or_refusal(alloc, &set, report_with_certificates(alloc, &set)),
         Task::Verify => or_refusal(alloc, &set, report_on_certificates(alloc, &set, own)),

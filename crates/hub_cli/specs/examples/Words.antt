@@ -3,8 +3,8 @@ use Rattle.std.specs.Prelude.{⊤, ◌≡◌, List, [], ◌∷◌, Option, Some,
 use Rattle.clap.proofs.OnLiterals.{clap_on_literals}
 use Rattle.clap.specs.Words.{Text}
 use Rattle.hub_cli.specs.Words.{Names, Request, about, asked_of, files_of, hubsync_app, is_strict_of, no_names}
-use Rattle.hub_cli.specs.Words.{imported, mended, reach}
-use Rattle.hub_cli.specs.declared.words.Question.TheVariants.{CheckWithState, Run, RunByRounds}
+use Rattle.hub_cli.specs.Words.{imported, mended, planned, reach}
+use Rattle.hub_cli.specs.declared.words.Question.TheVariants.{CheckWithState, Run, RunByRounds, RunInOrder}
 use Rattle.hub_cli.specs.declared.words.Question.TheVariants.{Check, Certify, Verify}
 use Rattle.hub_cli.specs.declared.words.Question.TheVariants.{Clashes, Graph, Rounds}
 use Rattle.hub_cli.specs.declared.words.Reading.TheVariants.{Plain, Unison}
@@ -197,6 +197,28 @@ an_import_has_no_state :
     asked (codes "import" ∷ codes "a.prf" ∷ codes "--state=s" ∷ []) ≡ None
 unfolding computed
 an_import_has_no_state = refl
+
+a_plan_of_a_folder : asked (codes "plan" ∷ codes "dir" ∷ []) ≡ Some planned
+unfolding computed
+a_plan_of_a_folder = refl
+
+a_plan_of_files_beside_rules :
+    asked (codes "plan" ∷ codes "a.prf" ∷ codes "--rules=r" ∷ codes "--hosts=t" ∷ [])
+    ≡ Some planned
+unfolding computed
+a_plan_of_files_beside_rules = refl
+
+a_plan_of_rules_alone : asked (codes "plan" ∷ codes "--rules=r" ∷ []) ≡ None
+unfolding computed
+a_plan_of_rules_alone = refl
+
+a_plan_is_always_for_unison : asked (codes "plan" ∷ codes "--unison" ∷ []) ≡ None
+unfolding computed
+a_plan_is_always_for_unison = refl
+
+a_plan_has_no_state : asked (codes "plan" ∷ codes "a.prf" ∷ codes "--state=s" ∷ []) ≡ None
+unfolding computed
+a_plan_has_no_state = refl
 
 lines_that_mend : asked (codes "mend" ∷ []) ≡ Some (mended Plain false)
 unfolding computed
@@ -394,6 +416,25 @@ workers_and_then_rounds = refl
 rounds_have_no_number : asked (codes "run" ∷ codes "--rounds=1" ∷ []) ≡ None
 unfolding computed
 rounds_have_no_number = refl
+
+a_run_in_order :
+    asked (codes "run" ∷ codes "--in-order" ∷ []) ≡ Some (about (RunInOrder DEFAULT_WORKERS))
+unfolding computed
+a_run_in_order = refl
+
+a_run_in_order_and_workers :
+    asked (codes "run" ∷ codes "--workers=3" ∷ codes "--in-order" ∷ [])
+    ≡ Some (about (RunInOrder 3))
+unfolding computed
+a_run_in_order_and_workers = refl
+
+a_run_in_two_ways : asked (codes "run" ∷ codes "--rounds" ∷ codes "--in-order" ∷ []) ≡ None
+unfolding computed
+a_run_in_two_ways = refl
+
+a_check_in_order : asked (codes "check" ∷ codes "--in-order" ∷ []) ≡ None
+unfolding computed
+a_check_in_order = refl
 
 an_unknown_command : asked (codes "go" ∷ []) ≡ None
 unfolding computed

@@ -23,6 +23,8 @@ pub data Start : Type 0 where
   ReachedStart : Start
   NotReachedStart : Start
   ArchiveStart : Start
+  PlanStart : Start
+  OrderStart : Start
   OtherStart : Start
 
 abbrev pub first : List ℕ → ℕ
@@ -51,7 +53,9 @@ start_of a c =
     else (if a == 98 then BreachStart
     else (if a == 110 then NotReachedStart
     else (if a == 116 then TooLargeStart
-    else (if a == 103 then GraphStart else (if a == 114 then r_start c else OtherStart)))))))
+    else (if a == 103 then GraphStart
+    else (if a == 112 then PlanStart
+    else (if a == 105 then OrderStart else (if a == 114 then r_start c else OtherStart)))))))))
 
 abbrev pub start : List ℕ → Start
 start t = start_of (first t) (third t)

@@ -18,7 +18,8 @@ returns-in-Ok-clause-told g c = λ all f cs.
 
 pub returns-in-Err-NotVerified-clause-told : goal.returns-in-Err-NotVerified-clause-told
 returns-in-Err-NotVerified-clause-told g c = λ all f cs.
-    let n = c.in-Err-NotVerified in (
+    let n = c.in-Err-NotVerified in
+    inl (
       inr (c.args.workers, c.args.state, refl),
       subst (IsUncut Plain c.args.set) n.field-0-is (uncut Plain c.args.set c.args.clashes.now n.field-0 (plain-lines c.args.set c.args.clashes.now (inl all)) n.ensures.refused),
     )

@@ -22,6 +22,12 @@ returns-in-RunByRounds-clause-told g c =
     let to_do = task.RunByRounds c.in-RunByRounds.workers c.in-RunByRounds.state in
     done-told c.args.task to_do c.args.set own c.report_on_run_by_rounds.result c.in-RunByRounds.is (c.report_on_run_by_rounds.ensures.told own)
 
+pub returns-in-RunInOrder-clause-told : goal.returns-in-RunInOrder-clause-told
+returns-in-RunInOrder-clause-told g c =
+    let own = c.args.own.now in
+    let to_do = task.RunInOrder c.in-RunInOrder.workers c.in-RunInOrder.state in
+    done-told c.args.task to_do c.args.set own c.report_on_run_in_order.result c.in-RunInOrder.is (c.report_on_run_in_order.ensures.told own)
+
 pub returns-in-Certify-clause-told : goal.returns-in-Certify-clause-told
 returns-in-Certify-clause-told g c =
     let own = c.args.own.now in

@@ -1,0 +1,195 @@
+-- What a plan of Unison's runs says of an input.
+use Rattle.std.specs.Prelude.{◌≡◌, ◌⊎◌, ◌<◌, ◌≤◌, ◌==◌, ◌+◌, ℕ, Bool, true, false, if◌then◌else◌, List, [], ◌∷◌, ◌++◌, length, slice_get, Some, Contains, Result, Ok, Err, string_bytes}
+use Rattle.hub_path.specs.Path.{Name}
+use Rattle.hub_profile.specs.Parts.{IsProfile, Parts}
+use Rattle.hub_profile.specs.Reading.{profile_in}
+use Rattle.hub_profile.specs.Rules.{rules_in}
+use Rattle.hub_profile.specs.declared.fault.Fault.{Fault}
+use Rattle.hub_profile.specs.declared.fault.Fault.TheVariants.{OutOfMemory}
+use Rattle.hub_profile.specs.declared.fault.ProfileFault.{ProfileFault}
+use Rattle.hub_profile.specs.declared.rule.Rule.{Rule}
+use Rattle.hub_cert.specs.Set.{IsSafeSet, Members}
+use Rattle.hub_cert.specs.declared.fault.CheckFault.{CheckFault}
+use Rattle.hub_cert.specs.declared.fault.CheckFault.TheVariants as fault
+use Rattle.hub_cert.specs.declared.set.TheConstants.{PROFILES}
+use Rattle.hub_apart.specs.declared.searched.Apart.{Apart}
+use Rattle.hub_apart.specs.ApartLines.{AreLinesApart, IsRefusedApart, set_of, set_of_two}
+use Rattle.hub_rounds.specs.Lines.{HasPair}
+use Rattle.hub_bundle.specs.Bundle.{SectionValue, bundle_reading}
+use Rattle.hub_bundle.specs.declared.bundle.Heading.{Heading}
+use Rattle.hub_bundle.specs.declared.bundle.Heading.TheVariants as heading
+use Rattle.hub_bundle.specs.declared.sections.SectionFault.{SectionFault}
+use Rattle.hub_bundle.specs.declared.sections.SectionFault.TheVariants.{OfRules}
+use Rattle.hub_text.specs.Fails.{and_then}
+use Rattle.hub_preferences.specs.Counted.{counted_bundle}
+use Rattle.hub_report.specs.Plan.{is_refused, is_whole, order_of, plan_text, run_alone, unread_numbers}
+use Rattle.hub_report.specs.Refusal.{refusal_line}
+use Rattle.hub_report.specs.declared.plan.Plan.{Plan}
+use Rattle.hub_report.specs.declared.plan.Roster.{Roster}
+use Rattle.hub_report.specs.declared.plan_answer.PlanAnswer.{PlanAnswer}
+use Rattle.hub_report.specs.declared.plan_answer.PlanAnswer.TheVariants.{Made, Refused, BadRules}
+use Rattle.hub_unison.specs.Rules.{AreReadForUnison}
+use Rattle.hub_unison.specs.Shared.{shared_pairs}
+use Rattle.hub_serve.specs.Unison.{written_in}
+use Rattle.hub_serve.specs.declared.taken.Taken.{Taken}
+
+-- Before the first section.
+abbrev pub no_profiles : Taken
+no_profiles = record {
+  roster = record { names = []; numbers = []; unread = [] };
+  profiles = [];
+  rules = [];
+}
+
+-- The names with one more; the number of the last profile is how many there are.
+abbrev pub names_with : Taken → Name → List Name
+names_with t name = t.roster.names ++ name ∷ []
+
+-- One more profile, which is read, or which has a fault. A faulty one doesn't keep the others from
+-- being read.
+abbrev pub with_read : Taken → Name → Parts → Taken
+with_read t name P = record t {
+  roster = record t.roster {
+    names = names_with t name;
+    numbers = t.roster.numbers ++ length (names_with t name) ∷ [];
+  };
+  profiles = t.profiles ++ P ∷ [];
+}
+
+abbrev pub with_unread : Taken → Name → ProfileFault → Taken
+with_unread t name f = record t {
+  roster = record t.roster {
+    names = names_with t name;
+    unread = t.roster.unread ++ (record { number = length (names_with t name); fault = f }) ∷ [];
+  };
+}
+
+abbrev pub with_profile : Taken → Name → Result Parts ProfileFault → Taken
+with_profile t name (Ok P) = with_read t name P
+with_profile t name (Err f) = with_unread t name f
+
+-- The rules, or the fault of the input.
+abbrev pub with_rules : Taken → Result (List Rule) ProfileFault → Result Taken SectionFault
+with_rules t (Ok Rs) = Ok (record t { rules = Rs })
+with_rules t (Err f) = Err (OfRules f)
+
+-- A reader had no memory.
+abbrev pub is_memory : Fault → Bool
+is_memory OutOfMemory = true
+is_memory _ = false
+
+abbrev pub had_no_memory : ProfileFault → Bool
+had_no_memory f = is_memory f.fault
+
+-- What a plan takes of one more section. A state and certificates are no part of it.
+abbrev pub take_under : Taken → Heading → List ℕ → Result Taken SectionFault
+take_under t (heading.Profile name) bytes = Ok (with_profile t name (profile_in name bytes))
+take_under t heading.Rules bytes = with_rules t (rules_in bytes)
+take_under t heading.State bytes = Ok t
+take_under t heading.Certificates bytes = Ok t
+
+abbrev pub take_section : Taken → SectionValue → Result Taken SectionFault
+take_section t s = take_under t s.heading s.bytes
+
+-- What it takes of these in their order, or the fault of the rules.
+abbrev pub taking : Taken → List SectionValue → Result Taken SectionFault
+taking t [] = Ok t
+taking t (s ∷ ss) = and_then (take_section t s) (λ u. taking u ss)
+
+-- The lines that count are a bundle, of which a plan takes this; or its rules have this fault.
+pub record Takes (counted : List ℕ) (t : Taken) : Type 0 where
+  pub sections : List SectionValue
+  pub bundle : bundle_reading counted ≡ Ok sections
+  pub taken : taking no_profiles sections ≡ Ok t
+
+pub record HasBadRules (counted : List ℕ) (f : SectionFault) : Type 0 where
+  pub sections : List SectionValue
+  pub bundle : bundle_reading counted ≡ Ok sections
+  pub taken : taking no_profiles sections ≡ Err f
+
+-- All of the profiles are valid.
+abbrev pub AreValid : List Parts → Type 0
+AreValid Ps = (i : ℕ) (P : Parts) → slice_get Ps i ≡ Some P → IsProfile P
+
+-- Each two of these of which no line says something are a safe set.
+abbrev pub AreSafeBeside : List Parts → List CheckFault → Type 0
+AreSafeBeside Ps lines =
+    (i j : ℕ) (P Q : Parts) → i < j → slice_get Ps i ≡ Some P → slice_get Ps j ≡ Some Q
+    → (HasPair lines i j → ⊥) → IsSafeSet (set_of_two P Q)
+
+-- These are the lines of readings and rules, and of two readings without one both are safe.
+pub record AreFoundOf (readings : List Parts) (Rs : List Rule) (found : Apart) : Type 0 where
+  pub profiles : found.profiles ≡ readings
+  pub rules : found.rules ≡ Rs
+  pub all : AreLinesApart (set_of readings Rs) found.lines
+  pub beside : AreSafeBeside readings found.lines
+
+-- This is the plan of them.
+pub record IsWrittenOf (r : Roster) (found : Apart) (p : Plan) : Type 0 where
+  pub text : string_bytes p.text
+      ≡ plan_text r (set_of found.profiles found.rules) found.lines (shared_pairs found.profiles)
+  pub whole : p.is_whole ≡ is_whole r found.rules found.lines
+
+-- The plan says of the profiles at these places among those that are read that they may not run at
+-- the same time: a line names them, or they share an archive.
+abbrev pub IsApart : List CheckFault → List (ℕ × ℕ) → ℕ → ℕ → Type 0
+IsApart lines archives i j = HasPair lines i j ⊎ Contains archives (i, j)
+
+-- The numbers of the profiles that a plan refuses: of those that are read, of which the first has
+-- place i; and of all.
+abbrev pub read_refused : List CheckFault → ℕ → List ℕ → List ℕ
+read_refused es i [] = []
+read_refused es i (n ∷ ns) =
+    (if is_refused es i then n ∷ [] else []) ++ read_refused es (i + 1) ns
+
+abbrev pub unread_refused : Roster → List Rule → List ℕ
+unread_refused r Rs = if run_alone Rs then [] else unread_numbers r.unread
+
+abbrev pub refused_of : Roster → List Rule → List CheckFault → List ℕ
+refused_of r Rs es = read_refused es 0 r.numbers ++ unread_refused r Rs
+
+-- How often a number is in a list.
+abbrev pub times_in : ℕ → List ℕ → ℕ
+times_in k [] = 0
+times_in k (n ∷ ns) = (if n == k then 1 else 0) + times_in k ns
+
+-- Each profile is either in the order, or refused, and that once.
+abbrev pub PlacesEach : Roster → List Rule → List CheckFault → Type 0
+PlacesEach r Rs es =
+    (k : ℕ) → 0 < k → k ≤ length r.names
+    → times_in k (order_of r Rs es) + times_in k (refused_of r Rs es) ≡ 1
+
+-- A text is the plan of a bundle. It rests on the readings for Unison of the profiles that are read,
+-- on the lines of each and of each two of them, and on the archives that two of them share.
+pub record IsPlan (bytes text : List ℕ) (whole : Bool) : Type 0 where
+  pub own : Taken
+  pub takes : Takes (counted_bundle bytes) own
+  pub readings : List Parts
+  pub read : AreReadForUnison (written_in takes.sections) own.rules readings
+  pub lines : List CheckFault
+  pub all : AreLinesApart (set_of readings own.rules) lines
+  pub beside : AreSafeBeside readings lines
+  pub text_is : text
+      ≡ plan_text own.roster (set_of readings own.rules) lines (shared_pairs readings)
+  pub whole_is : whole ≡ is_whole own.roster own.rules lines
+
+-- Why one or two of the readings can't be searched.
+abbrev pub IsRefusedPlan : Members → CheckFault → Type 0
+IsRefusedPlan S e =
+    IsRefusedApart S e ⊎ ((e ≡ fault.TooManyProfiles) × (PROFILES < length S.profiles))
+
+-- That is so of a bundle, and this is the line that says it.
+pub record IsUnplanned (bytes line : List ℕ) : Type 0 where
+  pub own : Taken
+  pub takes : Takes (counted_bundle bytes) own
+  pub readings : List Parts
+  pub read : AreReadForUnison (written_in takes.sections) own.rules readings
+  pub reason : CheckFault
+  pub refused : IsRefusedPlan (set_of readings own.rules) reason
+  pub line_is : line ≡ refusal_line (set_of readings own.rules) reason
+
+-- What holds of a bundle where a plan was asked for and that is the answer.
+abbrev pub PlanHolds : List ℕ → PlanAnswer → Type 0
+PlanHolds bytes (Made p) = IsPlan bytes (string_bytes p.text) p.is_whole
+PlanHolds bytes (Refused line refusal) = IsUnplanned bytes (string_bytes line)
+PlanHolds bytes (BadRules f) = HasBadRules (counted_bundle bytes) f

@@ -1,0 +1,59 @@
+-- What is answered where a plan is asked for.
+use Rattle.std.specs.Prelude.{◌≡◌, ⊤, ℕ, List, Err, string_bytes}
+use Rattle.hub_apart.specs.declared.searched.Apart.{Apart}
+use Rattle.hub_bundle.specs.Bundle.{bundle_reading}
+use Rattle.hub_cert.specs.Set.{Members}
+use Rattle.hub_cert.specs.declared.fault.CheckFault.{CheckFault}
+use Rattle.hub_cli.specs.Words.{planned}
+use Rattle.hub_preferences.specs.Counted.{counted_bundle}
+use Rattle.hub_report.specs.Refusal.{refusal_line}
+use Rattle.hub_report.specs.declared.faulty_input.FaultyInput.TheVariants.{BadBundle}
+use Rattle.hub_report.specs.declared.plan.Roster.{Roster}
+use Rattle.hub_report.specs.declared.plan_answer.PlanAnswer.TheVariants.{Made, Refused, BadRules}
+use Rattle.hub_report.specs.declared.report.Report.{Report}
+use Rattle.hub_report.specs.declared.report.Report.TheVariants as answer
+use Rattle.hub_profile.specs.Parts.{Parts}
+use Rattle.hub_profile.specs.declared.rule.Rule.{Rule}
+use Rattle.hub_unison.specs.Rules.{AreReadForUnison}
+use Rattle.hub_unison.specs.Written.{AreWrittenAs, Written}
+use Rattle.hub_serve.specs.Plans.{HasBadRules, IsWrittenOf, Takes}
+use Rattle.hub_serve.specs.Told.{Holds}
+use Rattle.hub_serve.specs.declared.taken.Taken.{Taken}
+
+-- What holds of the lines that count where nothing is taken of them.
+abbrev pub IsUntaken : List ℕ → Report → Type 0
+IsUntaken counted (answer.Faulty (BadBundle f)) = bundle_reading counted ≡ Err f
+IsUntaken counted (answer.Planned (BadRules f)) = HasBadRules counted f
+IsUntaken counted answer.OutOfMemory = ⊤
+IsUntaken counted _ = ⊥
+
+-- The answer holds of each input of which this is taken.
+abbrev pub OfTaken : Taken → Report → Type 0
+OfTaken t r = (bytes : List ℕ) → Takes (counted_bundle bytes) t → Holds planned bytes r
+
+-- And of each input whose lines that count are these.
+abbrev pub OfCounted : List ℕ → Report → Type 0
+OfCounted counted r =
+    (bytes : List ℕ) → counted ≡ counted_bundle bytes → Holds planned bytes r
+
+-- These are the readings of what is taken, however it is written.
+abbrev pub ReadsAll : Taken → List Parts → Type 0
+ReadsAll t readings =
+    (Ws : List Written) → AreWrittenAs Ws t.profiles → AreReadForUnison Ws t.rules readings
+
+-- The answer holds where this is taken and these are the readings.
+abbrev pub OfRead : Roster → List Parts → List Rule → Report → Type 0
+OfRead roster readings Rs r =
+    (t : Taken) → t.roster ≡ roster → t.rules ≡ Rs → ReadsAll t readings → OfTaken t r
+
+-- These profiles and rules are planned by these lines.
+abbrev pub TellsPlan : Roster → Apart → Report → Type 0
+TellsPlan roster found (answer.Planned (Made p)) = IsWrittenOf roster found p
+TellsPlan roster found answer.OutOfMemory = ⊤
+TellsPlan roster found _ = ⊥
+
+-- They can't be searched for that reason.
+abbrev pub TellsUnplanned : Members → CheckFault → Report → Type 0
+TellsUnplanned S e (answer.Planned (Refused line refusal)) = string_bytes line ≡ refusal_line S e
+TellsUnplanned S e answer.OutOfMemory = ⊤
+TellsUnplanned S e _ = ⊥

@@ -1,0 +1,168 @@
+//! Plans of Unison's runs.
+ghost use Rattle.std.specs.Prelude.{◌≡◌, None, IfErr, IfOk};
+ghost use Rattle.hub_apart.specs.ApartLines.{IsRefusedApart, set_of};
+ghost use Rattle.hub_cert.specs.Set.{Members};
+ghost use Rattle.hub_cli.specs.Words.{planned};
+ghost use Rattle.hub_report.specs.Report.{unread_by};
+ghost use Rattle.hub_serve.specs.Plans as plans;
+ghost use Rattle.hub_serve.specs.Told as told;
+ghost use Rattle.hub_serve.specs.forms.Planning as planning;
+
+use crate::answer::bad_bundle;
+use crate::reading::counted_as;
+use crate::taken::{Taken, taken_of};
+use hub_apart::{Apart, lines_apart};
+use hub_bundle::{ReadError, read_bundle};
+use hub_cert::laws::certificates_make_a_set_safe;
+use hub_cert::{CheckFault, PROFILES};
+use hub_cli::Reading;
+use hub_profile::{Profile, Rules};
+use hub_report::{Plan, PlanAnswer, Report, Roster, plan_of};
+use hub_search::laws::faults_say_what_is_unsafe;
+use hub_text::Items;
+use hub_unison::{read_set, shared_archives};
+use std::alloc::{AllocError, Global};
+
+/// The answer with a plan of Unison's runs by the profiles of an input's bytes. A profile that can't be read is in it: it runs
+/// alone, or is refused beside rules, since it may break one.
+pub fn report_on_plan<'a>(alloc: Global, bytes: Vec<u8>) -> Report<'a>
+    ensures holds { told.Holds planned bytes.items result }
+    ensures read { unread_by result ≡ None }
+{
+    match counted_as(alloc, Reading::Unison, bytes) {
+        Ok(counted) => report_on_counted(alloc, counted),
+        Err(AllocError) => Report::OutOfMemory,
+    }
+}
+
+/// The answer with a plan by these lines of an input, which count.
+fn report_on_counted<'a>(alloc: Global, counted: Vec<u8>) -> Report<'a>
+    ensures planned { planning.OfCounted counted.items result }
+    ensures read { unread_by result ≡ None }
+{
+    match taken_in(alloc, counted) {
+        Ok(taken) => report_on_taken(alloc, taken),
+        Err(report) => report,
+    }
+}
+
+/// The profiles and rules of a bundle of these bytes, or the answer if it can't be read. Its bytes are dropped.
+fn taken_in<'a>(alloc: Global, counted: Vec<u8>) -> Result<Taken, Report<'a>>
+    ensures takes { IfOk result (plans.Takes counted.items) }
+    ensures untaken { IfErr result (planning.IsUntaken counted.items) }
+    ensures read { IfErr result (λ r. unread_by r ≡ None) }
+{
+    let sections = match read_bundle(alloc, counted.as_slice()) {
+        Ok(sections) => sections,
+        Err(fault) => return Err(bad_bundle(fault)),
+    };
+    match taken_of(alloc, sections.as_slice()) {
+        Ok(taken) => Ok(taken),
+        Err(ReadError::Faulty(fault)) => Err(Report::Planned(PlanAnswer::BadRules(fault))),
+        Err(ReadError::OutOfMemory) => Err(Report::OutOfMemory),
+    }
+}
+
+/// The answer with the plan of these profiles and rules.
+fn report_on_taken<'a>(alloc: Global, taken: Taken) -> Report<'a>
+    ensures planned { planning.OfTaken taken result }
+    ensures read { unread_by result ≡ None }
+{
+    let Taken {
+        roster,
+        profiles,
+        rules,
+    } = taken;
+    match read_set(alloc, profiles, &rules) {
+        Ok(readings) => report_on_read(alloc, &roster, readings, rules),
+        Err(AllocError) => Report::OutOfMemory,
+    }
+}
+
+/// The answer with the plan of these readings and rules.
+fn report_on_read<'a>(
+    alloc: Global,
+    roster: &Roster,
+    readings: Items<Profile>,
+    rules: Rules,
+) -> Report<'a>
+    ensures planned { planning.OfRead roster.now readings rules result }
+    ensures read { unread_by result ≡ None }
+{
+    match lines_of(alloc, readings, rules) {
+        Ok(found) => report_on_found(alloc, roster, &found),
+        Err(fault) => refused(alloc, &fault),
+    }
+}
+
+/// The lines of these readings and rules, of one and two of them at a time.
+fn lines_of(alloc: Global, readings: Items<Profile>, rules: Rules) -> Result<Apart, CheckFault>
+    ensures found { IfOk result (plans.AreFoundOf readings rules) }
+    ensures refused { IfErr result
+        (plans.IsRefusedPlan (set_of readings rules)) }
+{
+    if readings.len() > PROFILES {
+        return Err(CheckFault::TooManyProfiles);
+    }
+    found_of(alloc, readings, rules)
+}
+
+/// The same of so many that they may be searched.
+fn found_of(alloc: Global, readings: Items<Profile>, rules: Rules) -> Result<Apart, CheckFault>
+    ensures found { IfOk result (plans.AreFoundOf readings rules) }
+    ensures refused { IfErr result (IsRefusedApart (set_of readings rules)) }
+{
+    let found = lines_apart(alloc, readings, rules)?;
+    check_valid(found.profiles.as_slice());
+    faults_say_what_is_unsafe();
+    certificates_make_a_set_safe();
+    Ok(found)
+}
+
+/// Each profile is valid.
+fn check_valid(profiles: &[Profile])
+    ensures { plans.AreValid profiles.now }
+{
+    for profile in profiles {
+        let _ = profile.roots();
+    }
+}
+
+/// The answer that these profiles can't be searched, because of that fault.
+fn refused<'a>(alloc: Global, fault: &CheckFault) -> Report<'a>
+    ensures told { (S : Members) → plans.IsRefusedPlan S fault.now
+        → planning.TellsUnplanned S fault.now result }
+    ensures read { unread_by result ≡ None }
+{
+    match Report::refusal_without_set(alloc, fault) {
+        Report::Refused(line, refusal) => Report::Planned(PlanAnswer::Refused(line, refusal)),
+        _ => Report::OutOfMemory,
+    }
+}
+
+/// The answer with the plan by these lines.
+fn report_on_found<'a>(alloc: Global, roster: &Roster, found: &Apart) -> Report<'a>
+    ensures told { planning.TellsPlan roster.now found.now result }
+    ensures read { unread_by result ≡ None }
+{
+    match plan_by(alloc, roster, found) {
+        Ok(plan) => Report::Planned(PlanAnswer::Made(plan)),
+        Err(AllocError) => Report::OutOfMemory,
+    }
+}
+
+/// The plan by these lines, and by the archives that are shared.
+fn plan_by(alloc: Global, roster: &Roster, found: &Apart) -> Result<Plan, AllocError>
+    ensures { IfOk result (plans.IsWrittenOf roster.now found.now) }
+{
+    let profiles = found.profiles.as_slice();
+    let archives = shared_archives(alloc, profiles)?;
+    plan_of(
+        alloc,
+        roster,
+        profiles,
+        found.rules.as_slice(),
+        found.lines.as_slice(),
+        archives.as_slice(),
+    )
+}

@@ -1,1 +1,12 @@
+pub mod InUnison
+pub mod Items
 pub mod Joining
+pub mod KeptRules
+pub mod LinesOfEach
+pub mod LinesOfPairs
+pub mod NestedRoots
+pub mod Numbers
+pub mod Readings
+pub mod Taken
+pub mod Tops
+pub mod WithoutLines

@@ -1,3 +1,5 @@
 pub mod Apart
 pub mod ApartLines
+pub mod UnisonLines
+pub mod WithoutLines
 pub mod examples

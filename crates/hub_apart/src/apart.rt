@@ -22,7 +22,7 @@ pub fn are_put_apart(profiles: &[Profile], rules: &[Rule]) -> bool
 }
 
 /// Returns whether an earlier and a later profile have nested roots.
-fn has_nested(profiles: &[Profile]) -> bool
+pub fn has_nested(profiles: &[Profile]) -> bool
     ensures { result ≡ any_two said.have_nested profiles.now }
 {
     let mut rest = profiles;
@@ -43,7 +43,7 @@ fn is_nested_with_one(profile: &Profile, others: &[Profile]) -> bool
 }
 
 /// Returns whether an earlier and a later profile have one name.
-fn has_namesakes(profiles: &[Profile]) -> bool
+pub fn has_namesakes(profiles: &[Profile]) -> bool
     ensures { result ≡ any_two said.are_namesakes profiles.now }
 {
     let mut rest = profiles;

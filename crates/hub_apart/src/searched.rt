@@ -20,12 +20,13 @@ use std::alloc::{AllocError, Global};
 /// Profiles and rules, and what clashes in them.
 #[derive(Debug, Drop)]
 pub struct Apart {
-    /// The profiles.
+    /// The profiles; or their readings beside the rules ([`crate::lines_in_unison`]).
     pub profiles: Items<Profile>,
     /// The rules.
     pub rules: Rules,
     /// For each profile the lines of the set of it and the rules. For each two the lines of the set of both; or one, if roots of
-    /// them are nested: that their clash has no certificate. All with the numbers that the profiles have among all.
+    /// them are nested: that their clash has no certificate. All with the numbers that the profiles have among all. In Unison
+    /// ([`crate::lines_in_unison`]) only near profiles are searched together, and by other readings than with the rules.
     pub lines: Items<CheckFault>,
 }
 
@@ -127,7 +128,7 @@ fn search_each(
 }
 
 /// Searches a profile with the rules, where that is its number, and appends its lines.
-fn search_one(
+pub(crate) fn search_one(
     alloc: Global,
     profile: Profile,
     rules: Rules,
@@ -182,7 +183,7 @@ fn search_with_each(
 }
 
 /// Searches two profiles together, unless they have nested roots, and appends their lines.
-fn search_two(
+pub(crate) fn search_two(
     alloc: Global,
     first: Profile,
     second: Profile,

@@ -15,3 +15,5 @@ pub mod Settlement
 pub mod Ending
 pub mod Crossing
 pub mod Waiting
+pub mod Spans
+pub mod Ordering

@@ -1,15 +1,13 @@
 -- Jobs that have had no turn, among others.
-use Rattle.std.proofs.Common.{◌≡◌, ◌≢◌, ⊎_elim, inl, inr, Bool, true, false, ◌||◌, ◌+◌, List, [], ◌∷◌, ◌++◌, length, Some, refl, ap, sym, ◌∙◌, subst, arith}
-use Rattle.std.specs.Prelude.{ℕ, zero, suc, ◌<◌, slice_get, Result, Ok, Err, IfOk}
+use Rattle.std.proofs.Common.{◌≡◌, ⊎_elim, Bool, true, false, ◌+◌, List, [], ◌∷◌, ◌++◌, length, Some, refl, ap, sym, ◌∙◌, subst, arith}
+use Rattle.std.specs.Prelude.{ℕ, zero, suc, slice_get, Result, Ok, Err, IfOk}
 use Rattle.std.proofs.lemmas.Bool.{false≢true, or_left}
 use Rattle.std.proofs.lemmas.Option.{same_Some, slice_get_within}
 use Rattle.hub_text.specs.laws.List.{less-or-same, snoc-cases, snoc-new, snoc-old}
 use Rattle.hub_path.specs.Path.{Path}
 use Rattle.hub_profile.specs.Parts.{Parts}
 use Rattle.hub_state.specs.State.{State}
-use Rattle.hub_job.specs.declared.job_end.End.{End}
 use Rattle.hub_job.specs.declared.job_end.End.TheVariants as end
-use Rattle.hub_job.specs.declared.job_end.JobEnd.{JobEnd}
 use Rattle.hub_job.specs.declared.log.Entry.{Entry}
 use Rattle.hub_job.specs.declared.log.Logged.{Logged}
 use Rattle.hub_job.specs.declared.outcome.Outcome.{Outcome}
@@ -17,10 +15,9 @@ use Rattle.hub_job.specs.declared.run_fault.RunFault.{RunFault}
 use Rattle.hub_job.specs.Ends.{end_with, items_with}
 use Rattle.hub_job.specs.Job.{next}
 use Rattle.hub_job.specs.JobValue.{JobValue}
-use Rattle.hub_history.specs.Book.{BookValue}
 use Rattle.hub_schedule.specs.Ended.{ended_value}
 use Rattle.hub_schedule.specs.Promise.{Settles}
-use Rattle.hub_runner.specs.Part.{AreOthers, IsSettledBy, IsWaiting, OneWaits, OthersAreMade, OthersWait, is_in, without_turns}
+use Rattle.hub_runner.specs.Part.{AreOthers, IsWaiting, OneWaits, OthersWait, is_in, without_turns}
 use Rattle.hub_runner.specs.Settling.{EndAsTheyAre}
 use Rattle.hub_runner.specs.Working.{AreEnded, asks_nothing, is_ended}
 
@@ -91,8 +88,3 @@ pub if_others_wait : (S : State) (Ps : List Parts) (histories : Path → List En
 if_others_wait S Ps histories part others jobs (Ok o) are settles ends =
     others_wait part (length Ps) others jobs o are ends settles.outcome.all
 if_others_wait S Ps histories part others jobs (Err f) are settles ends = tt
-
-pub if_settled : (S : State) (Ps : List Parts) (histories : Path → List Entry)
-    (r : Result Outcome RunFault) → IfOk r (Settles S Ps histories) → IfOk r (IsSettledBy S Ps)
-if_settled S Ps histories (Ok o) settles = (histories, settles)
-if_settled S Ps histories (Err f) settles = tt

@@ -1,3 +1,4 @@
+pub mod Order
 pub mod Part
 pub mod Settling
 pub mod Working

@@ -1,14 +1,9 @@
 -- Some jobs of a set, which run while the others wait.
-use Rattle.std.specs.Prelude.{◌≡◌, ◌<◌, ℕ, Bool, true, false, List, [], length, slice_get, Some, unwrap_or}
-use Rattle.hub_path.specs.Path.{Path}
-use Rattle.hub_profile.specs.Parts.{Parts}
-use Rattle.hub_state.specs.State.{State}
+use Rattle.std.specs.Prelude.{◌≡◌, ◌<◌, ℕ, Bool, true, false, List, [], slice_get, Some, unwrap_or}
 use Rattle.hub_job.specs.declared.job_end.End.TheVariants as end
 use Rattle.hub_job.specs.declared.job_end.JobEnd.{JobEnd}
-use Rattle.hub_job.specs.declared.log.Entry.{Entry}
 use Rattle.hub_job.specs.declared.outcome.Outcome.{Outcome}
 use Rattle.hub_job.specs.JobValue.{JobValue}
-use Rattle.hub_schedule.specs.Promise.{Settles}
 
 -- Whether the job of that number is in the part. One that the list doesn't reach isn't.
 abbrev pub is_in : List Bool → ℕ → Bool
@@ -22,10 +17,6 @@ without_turns = record { end = end.Stopped; log = []; items = [] }
 abbrev pub OthersWait : List Bool → Outcome → Type 0
 OthersWait part o =
     (j : ℕ) (e : JobEnd) → is_in part j ≡ false → slice_get o.jobs j ≡ Some e → e ≡ without_turns
-
--- There are histories that settle the outcome.
-abbrev pub IsSettledBy : State → List Parts → Outcome → Type 0
-IsSettledBy S Ps o = (histories : Path → List Entry) × Settles S Ps histories o
 
 -- A job that has had no turn, and is stopped.
 abbrev pub IsWaiting : JobValue → Type 0

@@ -2,19 +2,24 @@
 ghost use Rattle.std.specs.Prelude.{◌≡◌, ◌⊎◌, ◌<◌, ◌++◌, length, IfOk, IfErr};
 ghost use Rattle.hub_job.specs.declared.run_fault.RunFault.TheVariants as fault;
 ghost use Rattle.hub_schedule.specs.Simulated.{HaveEnded};
+ghost use Rattle.hub_runner.specs.Order.{AllStandInOrder, IsOutOfOrder, IsSettledBy};
 ghost use Rattle.hub_runner.specs.Part as spec;
-ghost use Rattle.hub_runner.specs.Part.{AreOthers, IsSettledBy, OthersWait};
+ghost use Rattle.hub_runner.specs.Part.{AreOthers, OthersWait};
 ghost use Rattle.hub_runner.specs.Working.{AreEnded, IsNotRun, MayRun};
 
 use crate::append::push;
 use crate::comparison::roots_of;
 use crate::desks::{jobs_for, open_desks};
+use crate::mismatch::mismatch;
+use crate::order::find_disorder;
+use crate::pairs::JobPair;
 use crate::pool::{PoolEnd, step_all};
+use crate::queue::Queue;
 use crate::runs::{Done, Opened, WORKERS, close_set};
 use crate::settling::settle_jobs;
 use crate::worker::QueuedJob;
 use hub_cert::ProfileSet;
-use hub_history::Gate;
+use hub_history::{Book, Gate};
 use hub_job::{Job, Outcome, RunFault};
 use hub_path::Side;
 use hub_profile::Profile;
@@ -27,20 +32,25 @@ use std::thread::Threads;
 /// Runs some jobs of a set at the same time, as `run` does, whether the set is safe or not. The job of the number `j` is one of
 /// them if `part[j]` is true. Any other job takes no turn: it ends as stopped, with an empty log.
 ///
-/// It says what was done, by histories that settle the outcome. What the jobs do to each other is for the caller to know:
-/// jobs of a part of which no two clash are to each other as if each were alone.
+/// A job starts as soon as each job of the part has ended that stands before it in one of the pairs. Each job of the part still works
+/// by the archive that the state has.
 ///
-/// The faults are those of `run`, for all profiles of the set.
+/// It says what was done, by histories that settle the outcome, and in which the pairs stand in order: that is compared after the
+/// run. What else the jobs do to each other is for the caller to know.
+///
+/// The faults are those of `run`, for all profiles of the set. A pair that isn't in order is a `Mismatch`; tests show none.
 pub fn run_part<G: Gate + Sync, R: Threads + Wait + Sync>(
     rt: &R,
     alloc: Global,
     set: &ProfileSet,
     state: &State,
     part: &[bool],
+    pairs: &[JobPair],
     workers: usize,
     gate: &G,
 ) -> Result<Outcome, RunFault>
-    ensures settled { IfOk result (IsSettledBy state.now set.now.profiles) }
+    ensures settled { IfOk result
+        (IsSettledBy state.now set.now.profiles pairs.now) }
     ensures rest { IfOk result (OthersWait part.now) }
     ensures ended { IfOk result (λ o. HaveEnded o.jobs) }
     ensures run { IfOk result (λ o. MayRun state.now set.now.profiles workers) }
@@ -55,7 +65,7 @@ pub fn run_part<G: Gate + Sync, R: Threads + Wait + Sync>(
     if let Some(root) = find_missing(set.profiles(), state) {
         return Err(RunFault::MissingReplica { root: root.copy()? });
     }
-    run_jobs(rt, alloc, set, state, part, workers, gate)
+    run_jobs(rt, alloc, set, state, part, pairs, workers, gate)
 }
 
 /// Runs some jobs of a set, and settles what all leave.
@@ -65,19 +75,41 @@ fn run_jobs<'a, G: Gate + Sync, R: Threads + Wait + Sync>(
     set: &'a ProfileSet,
     state: &'a State,
     part: &[bool],
+    pairs: &[JobPair],
     workers: usize,
     gate: &G,
 ) -> Result<Outcome, RunFault>
     requires run { MayRun state.now set.now.profiles workers }
-    ensures settled { IfOk result (IsSettledBy state.now set.now.profiles) }
+    ensures settled { IfOk result
+        (IsSettledBy state.now set.now.profiles pairs.now) }
     ensures rest { IfOk result (OthersWait part.now) }
     ensures ended { IfOk result (λ o. HaveEnded o.jobs) }
     ensures refused { IfErr result (IsNotRun state.now set.now.profiles workers) }
 {
-    let Done { books, jobs } = step_part(rt, alloc, set, state, part, workers, gate)?;
+    let Done { books, jobs } = step_part(rt, alloc, set, state, part, pairs, workers, gate)?;
+    check_order(alloc, set, books.as_slice(), jobs.as_slice(), pairs)?;
     let others = others_of(alloc, set.profiles(), state, part)?;
     let jobs = joined(others, jobs)?;
     settle_jobs(alloc, set, state, books, jobs)
+}
+
+/// Checks that the pairs stand in order in the histories of all books.
+fn check_order(
+    alloc: Global,
+    set: &ProfileSet,
+    books: &[Book<'_>],
+    jobs: &[Job<'_>],
+    pairs: &[JobPair],
+) -> Result<(), RunFault>
+    ensures ordered { IfOk result
+        (λ _. AllStandInOrder (length set.now.profiles) pairs.now books.now) }
+    ensures refused { IfErr result IsOutOfOrder }
+{
+    let profiles = set.profiles();
+    match find_disorder(alloc, profiles.len(), books, pairs)? {
+        Some((root, job)) => Err(mismatch(alloc, profiles, books, jobs, root, Some(job))?),
+        None => Ok(()),
+    }
 }
 
 /// Steps some jobs of a set until they end.
@@ -87,6 +119,7 @@ fn step_part<'a, G: Gate + Sync, R: Threads + Wait + Sync>(
     set: &'a ProfileSet,
     state: &'a State,
     part: &[bool],
+    pairs: &[JobPair],
     workers: usize,
     gate: &G,
 ) -> Result<Done<'a>, RunFault>
@@ -95,7 +128,8 @@ fn step_part<'a, G: Gate + Sync, R: Threads + Wait + Sync>(
     ensures refused { IfErr result (λ f. (f ≡ fault.ThreadRefused) ⊎ (f ≡ fault.OutOfMemory)) }
 {
     let Opened { desks, seats, jobs } = open_part(alloc, set, state, part, workers)?;
-    let PoolEnd { ended, seats } = step_all(rt, alloc, gate, &desks, seats, jobs)?;
+    let queue = Queue::new(alloc, set.profiles().len(), jobs, pairs)?;
+    let PoolEnd { ended, seats } = step_all(rt, alloc, gate, &desks, seats, queue)?;
     Ok(close_set(alloc, desks, seats, ended)?)
 }
 

@@ -9,6 +9,7 @@ use crate::append::push;
 use crate::comparison::roots_of;
 use crate::desks::{Desks, close_desks, jobs_for, open_desks};
 use crate::pool::{PoolEnd, step_all};
+use crate::queue::Queue;
 use crate::settling::settle;
 use crate::worker::{Ended, QueuedJob};
 use hub_cert::{ProfileSet, Verified};
@@ -105,7 +106,8 @@ fn step_set<'a, G: Gate + Sync, R: Threads + Wait + Sync>(
     ensures refused { IfErr result (λ f. (f ≡ fault.ThreadRefused) ⊎ (f ≡ fault.OutOfMemory)) }
 {
     let Opened { desks, seats, jobs } = open_set(alloc, set, state, workers)?;
-    let PoolEnd { ended, seats } = step_all(rt, alloc, gate, &desks, seats, jobs)?;
+    let queue = Queue::new(alloc, set.profiles().len(), jobs, &[])?;
+    let PoolEnd { ended, seats } = step_all(rt, alloc, gate, &desks, seats, queue)?;
     Ok(close_set(alloc, desks, seats, ended)?)
 }
 

@@ -6,7 +6,8 @@ pub mod Histories
 pub mod Pairs
 pub mod Orders
 pub mod Marks
-pub mod Starts
+pub mod Given
+pub mod Named
 pub mod OneWave
 pub mod Composed
 pub mod Lines

@@ -5,15 +5,18 @@ use Rattle.std.proofs.lemmas.Bool.{false≢true, and_parts, false_from_ne_true, 
 use Rattle.std.proofs.lemmas.List.Elements.{filter-append}
 use borrow.Author.Tests.{eqb-true}
 use Rattle.std.specs.FinMap as fin
+use Rattle.std.specs.Ordering.{eq_by_cmp}
 use Rattle.hub_path.specs.declared.side.Side.TheVariants.{Left, Right}
-use Rattle.hub_path.specs.Path.{Path, is_place, ascending}
+use Rattle.hub_path.specs.Path.{Path, is_place, ascending, path_cmp}
 use Rattle.hub_path.specs.laws.General.{is_over-reflexive}
 use Rattle.hub_profile.specs.Parts.{IsProfile, Parts, some_passes}
 use Rattle.hub_reach.specs.Reach.{reach}
 use Rattle.hub_reach.specs.laws.General.{passing, reach-is_path}
 use Rattle.hub_reach.specs.Safe.{share_archive}
-use Rattle.hub_tree.specs.Tree.{Archive, IsArchive, old_mark_at, with_mark}
+use Rattle.hub_tree.specs.Tree.{Archive, IsArchive, kept_mark, old_mark_at, with_mark}
 use Rattle.hub_tree.specs.declared.contents.Mark.{Mark}
+use Rattle.hub_tree.specs.declared.contents.Mark.TheVariants as mark
+use Rattle.hub_tree.specs.laws.Order.{path_total, same_path}
 use Rattle.hub_tree.specs.laws.Contented.{some_names}
 use Rattle.hub_tree.specs.laws.MarkMaps.{IsArchive-after}
 use Rattle.hub_reconcile.specs.Sync.{fate_over, mark_under, next_archive, synced_mark}
@@ -40,6 +43,40 @@ pub unreached : (P : Parts) (O : Archive) (log : List Logged) (q : Path) → rea
     → old_mark_at (archive_after P O log) q ≡ old_mark_at O q
 unreached P O log q e =
     archived_by P O (sights log) q ∙ unreached_by (view_in P O log) (reach P q) q e
+
+-- So it keeps there what it kept.
+get-with_mark : (a : Archive) (p q : Path) (m : Mark)
+    → fin.get (with_mark a p m) q ≡ cond (eq_by_cmp path_cmp q p) (kept_mark m) (fin.get a q)
+get-with_mark a p q (mark.File d) = fin.get-insert path_total a p (mark.File d) q
+get-with_mark a p q mark.Directory = fin.get-insert path_total a p mark.Directory q
+get-with_mark a p q mark.Absent = fin.get-remove path_total a p q
+
+unmarked : (f : Path → Mark) (t : Path → Bool) (ps : List Path) (O : Archive) (q : Path)
+    → t q ≡ false
+    → fin.get (fold (λ a p. with_mark a p (f p)) O (filter t ps)) q ≡ fin.get O q
+unmarked f t [] O q off = refl
+unmarked f t (p ∷ ps) O q off =
+    elim (t p) as (λ b. t p ≡ b
+    → fin.get (fold (λ a p. with_mark a p (f p)) O (cond b (p ∷ filter t ps) (filter t ps))) q
+    ≡ fin.get O q) [
+      | true ↦ λ e. unmarked f t ps (with_mark O p (f p)) q off
+          ∙ (get-with_mark O p q (f p)
+          ∙ ap (λ b. cond b (kept_mark (f p)) (fin.get O q))
+          (false_from_ne_true (eq_by_cmp path_cmp q p)
+          (λ same. false≢true (sym off ∙ (ap t (same_path q p same) ∙ e)))))
+      | false ↦ λ e. unmarked f t ps O q off
+    ] refl
+
+pub untouched : (P : Parts) (O : Archive) (log : List Logged) (q : Path) → reach P q ≡ false
+    → fin.get (archive_after P O log) q ≡ fin.get O q
+unfolding next_archive
+untouched P O log q off =
+    let V = view_in P O log in
+    unmarked (synced_mark V) (counts (reach P) V.mark V.old)
+    (ascending (map (λ (s : Path × Sight). s.0) (sights log Left)
+    ++ map (λ (s : Path × Sight). s.0) (sights log Right) ++ fin.keys O)) O q
+    (ap (λ b. b && (is_present (V.mark Left q) || is_present (V.mark Right q) || is_present (V.old q)))
+    off)
 
 -- It is an archive.
 marked_archive : (f : Path → Mark) (t : Path → Bool) (ps : List Path) (O : Archive)
@@ -126,6 +163,41 @@ module _ (Ps : List Parts) (R : RunRecord) where
   other_archives k (j ∷ L) A off =
       other_archives k L (with_marks_of Ps R j A) off
       ∙ other_by k j A (slice_get Ps j) (λ P is. off j P is)
+
+-- Only the jobs of the pair change its archive.
+abbrev pub of_pair : List Parts → RootPair → ℕ → Bool
+of_pair Ps k j = some_passes (λ P. pair_eq (pair_of P) k) (slice_get Ps j)
+
+pub taken_of_pair : (Ps : List Parts) (k : RootPair) (p : Path) (j : ℕ) → takes Ps k p j ≡ true
+    → of_pair Ps k j ≡ true
+taken_of_pair Ps k p j e =
+    let P = passing (λ (P : Parts). pair_eq (pair_of P) k && reach P p) (slice_get Ps j) e in
+    ap (some_passes (λ (Q : Parts). pair_eq (pair_of Q) k)) P.1
+    ∙ (and_parts (pair_eq (pair_of P.0) k) (reach P.0 p) P.2).0
+
+module _ (Ps : List Parts) (R : RunRecord) (k : RootPair) where
+  same_by : (j : ℕ) (A B : RootPair → Archive) (o : Option Parts) → A k ≡ B k
+      → with_marks_by A (R.log j) o k ≡ with_marks_by B (R.log j) o k
+  same_by j A B None e = e
+  same_by j A B (Some P) e =
+      λ i. cond (pair_eq (pair_of P) k) (archive_after P (e i) (R.log j)) (e i)
+
+  kept_off : (j : ℕ) (A : RootPair → Archive) (o : Option Parts)
+      → some_passes (λ P. pair_eq (pair_of P) k) o ≡ false → with_marks_by A (R.log j) o k ≡ A k
+  kept_off j A None off = refl
+  kept_off j A (Some P) off = ap (λ b. cond b (archive_after P (A k) (R.log j)) (A k)) off
+
+  pub of_its_pair : (L : List ℕ) (A B : RootPair → Archive) → A k ≡ B k
+      → archives_after_ends Ps R L A k ≡ archives_after_ends Ps R (filter (of_pair Ps k) L) B k
+  of_its_pair [] A B e = e
+  of_its_pair (j ∷ L) A B e =
+      elim (of_pair Ps k j) as (λ b. of_pair Ps k j ≡ b
+      → archives_after_ends Ps R L (with_marks_of Ps R j A) k
+      ≡ archives_after_ends Ps R (cond b (j ∷ filter (of_pair Ps k) L) (filter (of_pair Ps k) L)) B k) [
+        | true ↦ λ f. of_its_pair L (with_marks_of Ps R j A) (with_marks_of Ps R j B)
+            (same_by j A B (slice_get Ps j) e)
+        | false ↦ λ f. of_its_pair L (with_marks_of Ps R j A) B (kept_off j A (slice_get Ps j) f ∙ e)
+      ] refl
 
 -- Two jobs that take the same path clash.
 shared_by : (P Q : Parts) (k : RootPair) → IsProfile P → IsProfile Q → pair_of P ≡ k

@@ -5,7 +5,8 @@ use Rattle.std.specs.List.{list_any, range_with_len}
 use Rattle.std.proofs.lemmas.Bool.{false≢true, or_left, or_right, or_parts, or_cases, false_from_ne_true}
 use Rattle.std.proofs.lemmas.Option.{same_Some}
 use borrow.Author.Tests.{eqb-true}
-use Rattle.hub_schedule.specs.laws.Lists.{any-at}
+use Rattle.hub_schedule.specs.laws.Lists.{any-at, one_with}
+use Rattle.hub_serial.specs.RunRecord.{StandsBefore}
 use Rattle.hub_serial.specs.Schedule.{serial_turns}
 
 pub itself : (i : ℕ) → (i == i) ≡ true
@@ -215,3 +216,40 @@ has_parts l (x ∷ xs) ys j (inr g) =
 pub has_cut : (l : ℕ) (xs ys : List ℕ) (j : ℕ) (L : List ℕ) → L ≡ xs ++ j ∷ ys
     → (has l xs ≡ true) ⊎ (has l ys ≡ true) → has l L ≡ true
 has_cut l xs ys j L e g = ap (has l) e ∙ has_parts l xs ys j g
+
+-- In what a filter leaves of a range the lower number stands first.
+place_of : (j : ℕ) (L : List ℕ) → has j L ≡ true → (b : ℕ) × (slice_get L b ≡ Some j)
+place_of j L h =
+    let w = one_with (λ i. i == j) L h in (w.0, w.2 ∙ ap (λ i. Some i) (eqb-true w.1 j w.3))
+
+after_first : (a i k : ℕ) (L : List ℕ) → i < k → ((j : ℕ) → has j L ≡ true → a < j)
+    → (has i L ≡ true → has k L ≡ true → StandsBefore L i k)
+    → ((a == i) ≡ true) ⊎ (has i L ≡ true) → ((a == k) ≡ true) ⊎ (has k L ≡ true)
+    → StandsBefore (a ∷ L) i k
+after_first a i k L l above rest (inl e) (inl f) =
+    let x = eqb-true a i e in let y = eqb-true a k f in absurd (omega (arith, l, x, y))
+after_first a i k L l above rest (inl e) (inr f) =
+    let w = place_of k L f in
+    (0, suc w.0, omega arith, ap (λ x. Some x) (eqb-true a i e), w.1)
+after_first a i k L l above rest (inr e) (inl f) =
+    let x = above i e in let y = eqb-true a k f in absurd (omega (arith, l, x, y))
+after_first a i k L l above rest (inr e) (inr f) =
+    let w = rest e f in
+    let up = w.2 in
+    (suc w.0, suc w.1, omega (arith, up), w.3, w.4)
+
+pub lower_first : (t : ℕ → Bool) (a n i k : ℕ) → i < k
+    → has i (filter t (range_with_len a n)) ≡ true → has k (filter t (range_with_len a n)) ≡ true
+    → StandsBefore (filter t (range_with_len a n)) i k
+lower_first t a zero i k l h g = absurd (false≢true h)
+lower_first t a (suc n) i k l h g =
+    let L = filter t (range_with_len (a + 1) n) in
+    elim (t a) as (λ b. has i (cond b (a ∷ L) L) ≡ true → has k (cond b (a ∷ L) L) ≡ true
+    → StandsBefore (cond b (a ∷ L) L) i k) [
+      | true ↦ λ x y. after_first a i k L l
+          (λ j z. let r = (has_range (a + 1) n j (has_filtered t j (range_with_len (a + 1) n) z).0).0 in
+          omega (arith, r))
+          (λ e f. lower_first t (a + 1) n i k l e f) (or_cases (a == i) (has i L) x)
+          (or_cases (a == k) (has k L) y)
+      | false ↦ λ x y. lower_first t (a + 1) n i k l x y
+    ] h g

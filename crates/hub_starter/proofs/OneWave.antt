@@ -1,16 +1,17 @@
 -- What a wave leaves is what its jobs leave one after another.
 use Rattle.std.proofs.Common.{◌≡◌, ◌≢◌, ◌⊎◌, inl, inr, Bool, true, false, cond, ◌&&◌, ◌+◌, List, [], ◌∷◌, ◌++◌, length, Option, Some, None, refl, ap, sym, ◌∙◌, subst, arith}
-use Rattle.std.specs.Prelude.{◌==◌, ◌<◌, ℕ, filter, find, slice_get, unwrap_or}
+use Rattle.std.specs.Prelude.{◌==◌, ◌<◌, ℕ, filter, find, nat_lt, slice_get, unwrap_or}
 use Rattle.std.specs.List.{list_any, range_with_len}
 use Rattle.std.specs.FinMap as fin
 use Rattle.std.specs.Ordering.{is_lt}
 use Rattle.std.proofs.lemmas.Bool.{false≢true, and_parts, and_from, false_from_ne_true}
+use Rattle.std.proofs.lemmas.Bool.Decides.{nat_tests}
 use Rattle.hub_text.specs.laws.List.{has-item}
 use Rattle.hub_path.specs.Path.{Path, is_place, path_cmp}
 use Rattle.hub_profile.specs.Parts.{Parts, some_passes}
 use Rattle.hub_reach.specs.Reach.{has_root, reach}
 use Rattle.hub_reach.specs.laws.General.{passing}
-use Rattle.hub_tree.specs.Tree.{Archive, IsArchive, IsTree, Replica, old_mark_at}
+use Rattle.hub_tree.specs.Tree.{Archive, IsArchive, Replica, old_mark_at}
 use Rattle.hub_tree.specs.laws.Contented.{same_archive}
 use Rattle.hub_tree.specs.laws.MarkMaps.{IsArchive-empty}
 use Rattle.hub_reconcile.specs.Items.{items}
@@ -31,28 +32,24 @@ use Rattle.hub_schedule.specs.laws.Lists.{any-at, one_with}
 use Rattle.hub_schedule.specs.laws.Unchanged.{finished_of}
 use Rattle.hub_runner.specs.Part.{without_turns}
 use Rattle.hub_serial.specs.Clash.{AreProfiles, JobsClash}
-use Rattle.hub_serial.specs.RunRecord.{IsAsRecorded, IsSettledInOrder, RunRecord, archives_after_ends, serial_world, turn_count, with_marks_by, with_marks_of}
+use Rattle.hub_serial.specs.RunRecord.{IsAsRecorded, IsSettledInOrder, RunRecord, StandsBefore, WereGiven, archives_after_ends, serial_world, turn_count, with_marks_by, with_marks_of}
 use Rattle.hub_serial.specs.Schedule.{AreEquivalent, serial_turns}
-use Rattle.hub_serial.specs.Started.{AreStarterEvents, HasSerialRun}
-use Rattle.hub_serial.specs.Starter.{JobEvent, all_wait}
-use Rattle.hub_serial.specs.Starter.JobStatus.{Running}
 use Rattle.hub_serial.specs.World.{RootPair, World, opening, pair_eq, pair_of, run}
 use Rattle.hub_starter.specs.Opened.{archive_in, is_root_pair, items_of_end, opening_of, replica_in, turns_in, world_of}
 use Rattle.hub_starter.proofs.Numbers.{Distinct, distinct_filtered, filtered_has, found_passes, has, has_append, has_cut, has_either, has_filtered, has_serial_turns, itself, none_found, placed_once, range_has}
 use Rattle.hub_starter.proofs.Histories.{kept_one, legal_at}
-use Rattle.hub_starter.proofs.Trees.{state_trees}
+use Rattle.hub_starter.proofs.Given.{NoneShares, shared_gap, were_given}
 use Rattle.hub_starter.proofs.Frames.{IsLeftAlone, left_by_turns, no_items_turns}
 use Rattle.hub_starter.proofs.Pairs.{different, given_archive, has_its_pair, is_pair_of_roots, its_pair, pair_itself, root_is_place, same_pair}
-use Rattle.hub_starter.proofs.Marks.{both_take, cut_at, ends_are_archives, kept_marks, may_be_first, other_archives, takes}
-use Rattle.hub_starter.proofs.Starts.{all_at_once, starts_apart, starts_are, starts_give, starts_over, starts_run}
+use Rattle.hub_starter.proofs.Marks.{both_take, cut_at, ends_are_archives, kept_marks, may_be_first, of_its_pair, of_pair, other_archives, taken_of_pair, takes}
+use Rattle.hub_starter.proofs.Orders.{filter_swap, turned_clash}
 
--- What hub_serial says of starters, and of ends.
-abbrev pub StartersAreSerial : Type 0
-StartersAreSerial = (Ps : List Parts) (replicas : Path → Replica) (archives : RootPair → Archive)
-    (R : RunRecord) (es : List JobEvent) → AreProfiles Ps
-    → ((r : Path) → IsTree (replicas r))
-    → AreStarterEvents Ps R archives es → IsSettledInOrder Ps replicas R
-    → HasSerialRun Ps replicas archives R es
+-- What hub_serial says of histories in order, and of ends.
+abbrev pub HistoriesAreSerial : Type 0
+HistoriesAreSerial = (Ps : List Parts) (replicas : Path → Replica) (archives : RootPair → Archive)
+    (R : RunRecord) → AreProfiles Ps → IsSettledInOrder Ps replicas R
+    → WereGiven Ps R R.started archives
+    → IsAsRecorded Ps replicas archives R (serial_world Ps replicas archives R)
 
 abbrev pub EndsInAnyOrder : Type 0
 EndsInAnyOrder = (Ps : List Parts) (R : RunRecord) (ends : List ℕ) (archives : RootPair → Archive)
@@ -60,12 +57,19 @@ EndsInAnyOrder = (Ps : List Parts) (R : RunRecord) (ends : List ℕ) (archives :
     → archives_after_ends Ps R ends archives
     ≡ archives_after_ends Ps R (filter R.done R.started) archives
 
-module _ (starters : StartersAreSerial) (any_order : EndsInAnyOrder) (S : State) (Ps : List Parts)
+-- In the histories those that clash stand in order.
+abbrev pub ClashesStandInOrder : List Parts → (Path → List Entry) → Type 0
+ClashesStandInOrder Ps h = (r : Path) (i k : ℕ) → i < k → JobsClash Ps i k → (a b : ℕ)
+    (e f : Entry) → slice_get (h r) a ≡ Some e → slice_get (h r) b ≡ Some f → e.job ≡ i
+    → f.job ≡ k → a < b
+
+module _ (serial : HistoriesAreSerial) (any_order : EndsInAnyOrder) (S : State) (Ps : List Parts)
     (o : Outcome) (W : List ℕ) (facts : AreProfiles Ps) (valid : IsState S)
     (valid_left : IsState o.state) (there : HasReplicas S Ps) (h : Path → List Entry)
     (settles : Settles S Ps h o) (distinct : Distinct W)
     (within : (l : ℕ) → has l W ≡ true → l < length Ps)
-    (apart : (i k : ℕ) → has i W ≡ true → has k W ≡ true → i ≢ k → JobsClash Ps i k → ⊥)
+    (ascends : (i k : ℕ) → i < k → has i W ≡ true → has k W ≡ true → StandsBefore W i k)
+    (lone : NoneShares Ps W) (stand : ClashesStandInOrder Ps h)
     (rest : (j : ℕ) (e : JobEnd) → has j W ≡ false → slice_get o.jobs j ≡ Some e
     → e ≡ without_turns) where
   abbrev known_root : Path → Bool
@@ -169,6 +173,21 @@ module _ (starters : StartersAreSerial) (any_order : EndsInAnyOrder) (S : State)
       by_end (inr so) =
           finished_by (next P (archive_of S (Some P)) e.log) (sym so ∙ finished_of e.end done)
 
+  stand_by : (r : Path) (c : Bool) (a b : ℕ) (e f : Entry) → known_root r ≡ c → a < b
+      → slice_get (seen_at r c) a ≡ Some e → slice_get (seen_at r c) b ≡ Some f → e.job ≢ f.job
+      → JobsClash Ps e.job f.job → StandsBefore W e.job f.job
+  stand_by r false a b e f k l x y off clash = cc
+  stand_by r true a b e f k l x y off clash =
+      elim (nat_lt e.job f.job) as (λ c. nat_lt e.job f.job ≡ c → StandsBefore W e.job f.job) [
+        | true ↦ λ g.
+            let less : e.job < f.job = grind (arith, nat_tests, g) in
+            ascends e.job f.job less (in_wave_by r e a k x) (in_wave_by r f b k y)
+        | false ↦ λ g.
+            let less : f.job < e.job = grind (arith, nat_tests, g, off) in
+            let turned = stand r f.job e.job less (turned_clash Ps e.job f.job clash) b a f e y x refl refl in
+            absurd (omega (arith, l, turned))
+      ] refl
+
   settled : IsSettledInOrder Ps replicas R
   settled = record {
     jobs = λ j g. has-item Ps j (within j g);
@@ -183,43 +202,18 @@ module _ (starters : StartersAreSerial) (any_order : EndsInAnyOrder) (S : State)
         ap (λ b. entries_of j (seen_at r b)) (is_known j P r is has_it)
         ∙ settles.settled.agree j P r is has_it;
     ordered = λ r a b e f l x y off clash.
-        absurd (apart e.job f.job (in_wave r e a (known_root r) refl x)
-        (in_wave r f b (known_root r) refl y) off clash);
+        stand_by r (known_root r) a b e f refl l x y off clash;
   }
 
   given : (j : ℕ) (P : Parts) → slice_get Ps j ≡ Some P → R.given j ≡ archives (pair_of P)
   given j P is = ap (archive_of S) is ∙ sym (given_archive S P (facts j P is))
 
-  nobody_runs : (k : ℕ) → all_wait k ≡ Running → ⊥
-  nobody_runs k e = cc
-
-  events : AreStarterEvents Ps R archives (all_at_once W W)
-  events = record {
-    apart = starts_apart (JobsClash Ps) all_wait W W distinct (λ l g. refl)
-        (λ l k g f off clash. apart l k g f off clash)
-        (λ l k g r clash. nobody_runs k r);
-    ends = starts_run all_wait W W distinct (λ l g. inr g);
-    over = λ j. starts_over all_wait W W j (either j (has j W) refl);
-    given = starts_give Ps R archives given W W;
-    started = sym (starts_are W W);
-  }
-    where
-      either : (j : ℕ) (b : Bool) → has j W ≡ b
-          → (has j W ≡ true) ⊎ ((all_wait j ≢ Running) × (has j W ≡ false))
-      either j true e = inl e
-      either j false e = inr (nobody_runs j, e)
-
-  trees : (r : Path) → IsTree (replicas r)
-  trees r = state_trees S valid r
-
-  serial : HasSerialRun Ps replicas archives R (all_at_once W W)
-  serial = starters Ps replicas archives R (all_at_once W W) facts trees events settled
-
   abbrev last : World
   last = serial_world Ps replicas archives R
 
   is_last : IsAsRecorded Ps replicas archives R last
-  is_last = serial.recorded
+  is_last = serial Ps replicas archives R facts settled
+      (were_given Ps facts W lone R archives given distinct)
 
   -- Replicas.
   replay_by : (r : Path) (b : Bool) → known_root r ≡ b
@@ -383,40 +377,66 @@ module _ (starters : StartersAreSerial) (any_order : EndsInAnyOrder) (S : State)
         below : (j : ℕ) → has j W ≡ true → j < 0 + length Ps
         below j g = let l = within j g in omega (arith, l)
 
-    -- One job takes it: it may be the first one to end.
+    -- The jobs of the pair don't clash.
+    abbrev own_jobs : List ℕ
+    own_jobs = filter (of_pair Ps k) W
+
+    abbrev own_record : RunRecord
+    own_record = record R { started = own_jobs }
+
+    apart : (i j : ℕ) → has i own_jobs ≡ true → has j own_jobs ≡ true → i ≢ j → JobsClash Ps i j → ⊥
+    apart i j h g off clash =
+        let a = has_filtered (of_pair Ps k) i W h in
+        let b = has_filtered (of_pair Ps k) j W g in
+        let P = passing (λ (P : Parts). pair_eq (pair_of P) k) (slice_get Ps i) a.1 in
+        let Q = passing (λ (P : Parts). pair_eq (pair_of P) k) (slice_get Ps j) b.1 in
+        let one = same_pair (pair_of P.0) k P.2 in
+        let two = same_pair (pair_of Q.0) k Q.2 in
+        lone i j a.0 b.0 off clash (shared_gap Ps facts i j P.0 Q.0 P.1 Q.1 (one ∙ sym two))
+        (shared_gap Ps facts j i Q.0 P.0 Q.1 P.1 (two ∙ sym one))
+
+    -- One job takes it: of those of the pair it may be the first one to end.
     taken_mark : (p : Path) (j : ℕ) → takes_marks o Ps k.0 k.1 p j ≡ true
         → old_mark_at (archives_after_ends Ps R (filter finishes W) archives k) p
         ≡ mark_by S Ps (logs_in o) p (old_mark_at (unwrap_or (archive_at S k.0 k.1) fin.empty) p)
         (Some j)
     taken_mark p j e =
         let w = taken_is p j e in
-        let L = filter finishes W in
-        let cut = cut_at j L (distinct_filtered finishes W distinct) w.0 in
+        let L = filter finishes own_jobs in
+        let ends = has_filtered finishes j W w.0 in
+        let own_end : has j L ≡ true =
+        filtered_has finishes j own_jobs
+        (filtered_has (of_pair Ps k) j W ends.0 (taken_of_pair Ps k p j w.1)) ends.1 in
+        let cut = cut_at j L
+        (distinct_filtered finishes own_jobs (distinct_filtered (of_pair Ps k) W distinct)) own_end in
         let front = cut.0 in
         let after_it = cut.1 in
         let free : (l : ℕ) → has l front ≡ true → (JobsClash Ps l j ⊎ JobsClash Ps j l) → ⊥ = λ l g clash.
         (let own = has_cut l front after_it j L cut.2 (inl g) in
-        let one = has_filtered finishes l W own in
-        let two = has_filtered finishes j W w.0 in
+        let one = has_filtered finishes l own_jobs own in
+        let two = has_filtered finishes j own_jobs own_end in
         let off : l ≢ j = λ same. false≢true (sym cut.3 ∙ (ap (λ x. has x front) (sym same) ∙ g)) in
         elim clash [
           | inl c ↦ apart l j one.0 two.0 off c
           | inr c ↦ apart j l two.0 one.0 (λ s. off (sym s)) c
         ]) in
-        let order = any_order Ps R (j ∷ front ++ after_it) archives facts
+        let order = any_order Ps own_record (j ∷ front ++ after_it) archives facts
         (subst (AreEquivalent (JobsClash Ps) (j ∷ front ++ after_it)) (sym cut.2)
         (may_be_first (JobsClash Ps) j front after_it cut.3 free)) in
         let others : (l : ℕ) → has l (front ++ after_it) ≡ true → takes Ps k p l ≡ false = λ l g.
         (false_from_ne_true (takes Ps k p l) (λ f.
         let own = has_cut l front after_it j L cut.2 (has_either l front after_it g) in
-        let one = has_filtered finishes l W own in
-        let two = has_filtered finishes j W w.0 in
+        let one = has_filtered finishes l own_jobs own in
+        let two = has_filtered finishes j own_jobs own_end in
         let off : l ≢ j = λ same. false≢true (sym (has_append j front after_it cut.3 cut.4)
         ∙ (ap (λ x. has x (front ++ after_it)) (sym same) ∙ g)) in
         apart l j one.0 two.0 off (both_take Ps facts k p l j f w.1))) in
-        ap (λ (A : RootPair → Archive). old_mark_at (A k) p) (sym order)
+        ap (λ A. old_mark_at A p)
+        (of_its_pair Ps R k (filter finishes W) archives archives refl
+        ∙ ap (λ xs. archives_after_ends Ps R xs archives k) (filter_swap (of_pair Ps k) finishes W))
+        ∙ (ap (λ (A : RootPair → Archive). old_mark_at (A k) p) (sym order)
         ∙ (kept_marks Ps R k p (front ++ after_it) (with_marks_of Ps R j archives) others
-        ∙ its_mark p j w.1)
+        ∙ its_mark p j w.1))
       where
         its_mark : (p : Path) (j : ℕ) → takes Ps k p j ≡ true
             → old_mark_at (with_marks_of Ps R j archives k) p

@@ -11,7 +11,7 @@ use Rattle.hub_text.specs.laws.List.{range-push}
 use Rattle.hub_profile.specs.Parts.{Parts}
 use Rattle.hub_serial.specs.Clash.{JobsClash}
 use Rattle.hub_serial.specs.Schedule.{AreEquivalent, serial_turns}
-use Rattle.hub_starter.specs.Waves.{AreBelow, KeepApart, jobs_by_wave, jobs_in_wave, wave_of}
+use Rattle.hub_starter.specs.Waves.{AreBelow, KeepApart, gap, jobs_by_wave, jobs_in_wave, wave_of}
 use Rattle.hub_starter.proofs.Numbers.{has, has_filtered, has_here, has_later, has_range}
 
 -- The turns of two jobs in a serial schedule are those of the two, one after the other.
@@ -122,7 +122,7 @@ module _ (level : ℕ → ℕ) where
           ∙ sym (append_assoc (at_level l xs) (flat_map (λ l. at_level l xs) ls) (at_level m xs))
 
 -- Filters.
-filter_swap : (t u : ℕ → Bool) (xs : List ℕ) → filter t (filter u xs) ≡ filter u (filter t xs)
+pub filter_swap : (t u : ℕ → Bool) (xs : List ℕ) → filter t (filter u xs) ≡ filter u (filter t xs)
 filter_swap t u [] = refl
 filter_swap t u (x ∷ xs) =
     elim (t x) as (λ b. t x ≡ b → filter t (cond (u x) (x ∷ filter u xs) (filter u xs))
@@ -202,18 +202,19 @@ module _ (Ps : List Parts) (waves : List ℕ) (apart : KeepApart Ps waves) where
       (subst (λ z. JobsClash Ps k z) (sym b) (turned_clash Ps i k clash))) in
       omega (arith, up)
 
-  -- No two of a wave clash.
-  pub none_in_wave : (w i k : ℕ) → (wave_of waves i == w) ≡ true → (wave_of waves k == w) ≡ true
-      → i < length waves → k < length waves → i ≢ k → JobsClash Ps i k → ⊥
-  none_in_wave w i k e f l m off clash =
+  -- No two of a wave that clash have one archive.
+  pub none_shares : (w i k : ℕ) → (wave_of waves i == w) ≡ true → (wave_of waves k == w) ≡ true
+      → i < length waves → k < length waves → i ≢ k → JobsClash Ps i k → gap Ps i k ≡ 1
+      → gap Ps k i ≡ 1 → ⊥
+  none_shares w i k e f l m off clash one other =
       let same : wave_of waves i ≡ wave_of waves k = eqb-true _ w e ∙ sym (eqb-true _ w f) in
       elim (nat_lt i k) as (λ b. nat_lt i k ≡ b → ⊥) [
         | true ↦ λ h.
             let less : i < k = grind (arith, nat_tests, h) in
-            let up = apart i k less m clash in omega (arith, up, same)
+            let up = apart i k less m clash in omega (arith, up, same, one)
         | false ↦ λ h.
             let less : k < i = grind (arith, nat_tests, h, off) in
-            let up = apart k i less l (turned_clash Ps i k clash) in omega (arith, up, same)
+            let up = apart k i less l (turned_clash Ps i k clash) in omega (arith, up, same, other)
       ] refl
 
   module _ (count : ℕ) (below : AreBelow count waves) where

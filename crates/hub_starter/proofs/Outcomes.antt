@@ -25,21 +25,23 @@ use Rattle.hub_schedule.specs.Promise.{HasReplicas, Settles}
 use Rattle.hub_schedule.specs.Refusals.{first_missing}
 use Rattle.hub_schedule.specs.Simulated.{HaveEnded}
 use Rattle.hub_schedule.specs.laws.Missing.{find_after, have_replicas, lacks}
-use Rattle.hub_runner.specs.Part.{IsSettledBy, OthersWait, is_in, without_turns}
+use Rattle.hub_runner.specs.Order.{IsSettledBy}
+use Rattle.hub_runner.specs.Part.{OthersWait, is_in, without_turns}
+use Rattle.hub_runner.specs.declared.pairs.JobPair.{JobPair}
 use Rattle.hub_serial.specs.Clash.{AreProfiles, JobsClash}
 use Rattle.hub_serial.specs.Schedule.{AreEquivalent, serial_turns}
 use Rattle.hub_serial.specs.World.{World, run}
 use Rattle.hub_starter.specs.InOrder.{IsSerial, KeepsWhatIsThere}
 use Rattle.hub_starter.specs.Opened.{opening_of, turns_in, world_of}
 use Rattle.hub_starter.specs.Waved.{AreMergedEnds, IsAfterWaves, IsWaveOf, part_for}
-use Rattle.hub_starter.specs.Waves.{AreWavesOf, WavesValue, jobs_by_wave, jobs_in_wave, wave_of}
-use Rattle.hub_starter.proofs.Numbers.{Distinct, distinct_filtered, distinct_range, filtered_has, has, has_either, has_filtered, has_range, itself, range_has}
+use Rattle.hub_starter.specs.Waves.{AreWaves, WavesValue, jobs_by_wave, jobs_in_wave, wave_of}
+use Rattle.hub_starter.proofs.Numbers.{Distinct, distinct_filtered, distinct_range, filtered_has, has, has_either, has_filtered, has_range, itself, lower_first, range_has}
 use Rattle.hub_starter.proofs.Frames.{SetsKeepTrees}
 use Rattle.hub_starter.proofs.Composed.{AreMerged, one_wave_more}
-use Rattle.hub_starter.proofs.Orders.{equivalent_turns, none_in_wave, waves_are_in_order}
+use Rattle.hub_starter.proofs.Orders.{equivalent_turns, none_shares, waves_are_in_order}
 use Rattle.hub_starter.proofs.Pairs.{path_eq-reflexive, root_is_place}
 use Rattle.hub_starter.proofs.Parts.{JobsWorkInTurn, in_parts}
-use Rattle.hub_starter.proofs.OneWave.{EndsInAnyOrder, StartersAreSerial, wave_is_serial}
+use Rattle.hub_starter.proofs.OneWave.{EndsInAnyOrder, HistoriesAreSerial, wave_is_serial}
 use Rattle.hub_starter.proofs.Trees.{state_trees}
 
 -- Jobs of a wave.
@@ -100,9 +102,9 @@ none_missing S (P ∷ Ps) there =
     (find_none S P.roots (λ r h. there 0 P r refl h))
     ∙ none_missing S Ps (λ j Q r is h. there (suc j) Q r is h)
 
-pub still_there : (S : State) (Ps : List Parts) (o : Outcome) → AreProfiles Ps → HasReplicas S Ps
-    → IsSettledBy S Ps o → first_missing o.state Ps ≡ None
-still_there S Ps o facts there (histories, settles) =
+pub still_there : (S : State) (Ps : List Parts) (pairs : List JobPair) (o : Outcome) → AreProfiles Ps → HasReplicas S Ps
+    → IsSettledBy S Ps pairs o → first_missing o.state Ps ≡ None
+still_there S Ps pairs o facts there (histories, settles, stand) =
     none_missing o.state Ps (λ j P r is h.
     let m = there j P r is h in
     ap (λ x. not (is_some x))
@@ -116,9 +118,9 @@ kept_replica S Ps o histories settles r p None e = ap is_some (settles.outcome.o
 kept_replica S Ps o histories settles r p (Some m) e =
     ap is_some (settles.outcome.replicas r m p e)
 
-settled_keeps : (S : State) (Ps : List Parts) (o : Outcome) → IsSettledBy S Ps o
-    → KeepsWhatIsThere S Ps o
-settled_keeps S Ps o (histories, settles) = record {
+settled_keeps : (S : State) (Ps : List Parts) (pairs : List JobPair) (o : Outcome)
+    → IsSettledBy S Ps pairs o → KeepsWhatIsThere S Ps o
+settled_keeps S Ps pairs o (histories, settles, stand) = record {
   replicas = λ r p. kept_replica S Ps o histories settles r p (replica_at S r) refl;
   archives = settles.outcome.pairs;
 }
@@ -145,10 +147,10 @@ any_either t u v (x ∷ xs) both =
     ∙ mixed_or (t x) (u x) (list_any t xs) (list_any u xs)
 
 -- A wave.
-module _ (starters : StartersAreSerial) (any_order : EndsInAnyOrder) (S : State) (w : WavesValue)
-    (are : AreWavesOf w.set w.numbers w.count) (valid : HasValidProfiles w.set)
+module _ (serial : HistoriesAreSerial) (any_order : EndsInAnyOrder) (S : State) (w : WavesValue)
+    (are : AreWaves w) (valid : HasValidProfiles w.set)
     (state : IsState S) (there : first_missing S w.set.profiles ≡ None) where
-  pub settled_wave : (k : ℕ) (o : Outcome) → IsSettledBy S w.set.profiles o
+  pub settled_wave : (k : ℕ) (o : Outcome) → IsSettledBy S w.set.profiles w.pairs o
       → OthersWait (part_for w.numbers k) o → HaveEnded o.jobs → IsState o.state → IsWaveOf S w k o
   settled_wave k o settled wait ended left =
       let Ps = w.set.profiles in
@@ -163,16 +165,21 @@ module _ (starters : StartersAreSerial) (any_order : EndsInAnyOrder) (S : State)
           all = all;
           ended = ended;
           valid = left;
-          there = still_there S Ps o valid (have_replicas S Ps there) settled;
+          there = still_there S Ps w.pairs o valid (have_replicas S Ps there) settled;
         };
-        kept = settled_keeps S Ps o settled;
-        world = wave_is_serial starters any_order S Ps o (jobs_in_wave w.numbers k) valid state left
+        kept = settled_keeps S Ps w.pairs o settled;
+        world = wave_is_serial serial any_order S Ps o (jobs_in_wave w.numbers k) valid state left
             (have_replicas S Ps there) settled.0 settled.1 (distinct_wave w.numbers k)
             (λ l h. let in_it = (of_wave w.numbers k l h).0 in omega (arith, in_it, long))
+            (lower_first (λ i. wave_of w.numbers i == k) 0 (length w.numbers))
             (λ i j h g off clash.
             let one = of_wave w.numbers k i h in
             let two = of_wave w.numbers k j g in
-            none_in_wave Ps w.numbers are.apart k i j one.1 two.1 one.0 two.0 off clash)
+            none_shares Ps w.numbers are.apart k i j one.1 two.1 one.0 two.0 off clash)
+            (λ r i j l clash.
+            let at = are.pairs i j l clash in
+            settled.2 r at.0 (record { earlier = i; later = j }) at.1 l
+            (slice_get_within Ps j clash.1 clash.3))
             (λ j e off at.
             let l = slice_get_within o.jobs j e at in
             rest_by j e at (off_wave w.numbers k j (omega (arith, l, long, all)) off));
@@ -222,7 +229,7 @@ below_count numbers k j h =
     let same = eqb-true (wave_of numbers j) w.0 own.1 in
     (own.0, omega (arith, high, same))
 
-module _ (S : State) (w : WavesValue) (are : AreWavesOf w.set w.numbers w.count) where
+module _ (S : State) (w : WavesValue) (are : AreWaves w) where
   abbrev Ps : List Parts
   Ps = w.set.profiles
 
@@ -351,7 +358,7 @@ EquivalentLeaveTheSame = (Ps : List Parts) (js ks : List ℕ) (w : World) → Ar
 -- All waves.
 module _ (equivalent : EquivalentLeaveTheSame)
     (works : JobsWorkInTurn) (sets : SetsKeepTrees) (S : State) (w : WavesValue)
-    (are : AreWavesOf w.set w.numbers w.count) (valid : HasValidProfiles w.set) (state : IsState S)
+    (are : AreWaves w) (valid : HasValidProfiles w.set) (state : IsState S)
   where
     pub all_waves : (o : Outcome) → IsAfterWaves S w w.count o → IsSerial S w.set.profiles o
     all_waves o after =

@@ -1,11 +1,11 @@
 -- The waves of jobs, one job after another.
-use Rattle.std.proofs.Common.{◌≡◌, ◌≢◌, ⊎_elim, true, false, ◌+◌, List, [], ◌∷◌, ◌++◌, length, Some, refl, ap, sym, ◌∙◌, arith}
+use Rattle.std.proofs.Common.{◌≡◌, ⊎_elim, ◌+◌, List, [], ◌∷◌, ◌++◌, length, get_or, Some, max, ap, sym, ◌∙◌, subst, arith}
 use Rattle.std.specs.Prelude.{◌<◌, ◌≤◌, ℕ, slice_get, unwrap_or}
-use Rattle.hub_text.specs.laws.List.{has-item, less-or-same, snoc-new, snoc-old}
-use Rattle.hub_cert.specs.declared.fault.CheckFault.{CheckFault}
+use Rattle.std.proofs.lemmas.Option.{get_or_from_slice_get, slice_get_within}
+use Rattle.hub_text.specs.laws.List.{also-here, has-item, less-or-same, snoc-new, snoc-old}
 use Rattle.hub_profile.specs.Parts.{Parts}
-use Rattle.hub_serial.specs.Clash.{JobsClash}
-use Rattle.hub_starter.specs.Waves.{AreLow, IsNextWave, KeepApart, RiseBy, may_clash, wave_of}
+use Rattle.hub_runner.specs.declared.pairs.JobPair.{JobPair}
+use Rattle.hub_starter.specs.Waves.{AreLow, HaveEachClash, IsNextWave, KeepApart, MayFollow, RiseBy, gap, wave_of}
 
 pub length_more : (numbers : List ℕ) (x : ℕ) → length (numbers ++ x ∷ []) ≡ length numbers + 1
 length_more [] x = omega arith
@@ -20,32 +20,32 @@ wave_old numbers x j l =
 wave_new : (numbers : List ℕ) (x : ℕ) → wave_of (numbers ++ x ∷ []) (length numbers) ≡ x
 wave_new numbers x = ap (λ o. unwrap_or o 0) (snoc-new numbers x)
 
-pub none_rise : (es : List CheckFault) → RiseBy es []
-none_rise es i j l m e = absurd (omega (arith, m))
+pub none_rise : (Ps : List Parts) (pairs : List JobPair) → RiseBy Ps pairs []
+none_rise Ps pairs k p at l m = absurd (omega (arith, m))
 
 pub none_low : AreLow []
 none_low j l = absurd (omega (arith, l))
 
-pub rise_more : (es : List CheckFault) (numbers : List ℕ) (x : ℕ) → RiseBy es numbers
-    → IsNextWave es numbers x → RiseBy es (numbers ++ x ∷ [])
-rise_more es numbers x rise next i j l m e =
+pub rise_more : (Ps : List Parts) (pairs : List JobPair) (numbers : List ℕ) (x : ℕ)
+    → RiseBy Ps pairs numbers → IsNextWave Ps pairs numbers x → RiseBy Ps pairs (numbers ++ x ∷ [])
+rise_more Ps pairs numbers x rise next k p at l m =
     let long = length_more numbers x in
     ⊎_elim
     (λ less.
-    let one = wave_old numbers x i (omega (arith, l, less)) in
-    let two = wave_old numbers x j less in
-    let up = rise i j l less e in omega (arith, one, two, up))
+    let one = wave_old numbers x p.earlier (omega (arith, l, less)) in
+    let two = wave_old numbers x p.later less in
+    let up = rise k p at l less in omega (arith, one, two, up))
     (λ same.
-    let within : i < length numbers = omega (arith, l, same) in
-    let one = wave_old numbers x i within in
+    let within : p.earlier < length numbers = omega (arith, l, same) in
+    let one = wave_old numbers x p.earlier within in
     let two = ap (wave_of (numbers ++ x ∷ [])) same ∙ wave_new numbers x in
-    let up = next.above i within (ap (may_clash es i) (sym same) ∙ e) in
+    let up = next.above k p at same within in
     omega (arith, one, two, up))
-    (less-or-same j (length numbers) (omega (arith, m, long)))
+    (less-or-same p.later (length numbers) (omega (arith, m, long)))
 
-pub low_more : (es : List CheckFault) (numbers : List ℕ) (x : ℕ) → AreLow numbers
-    → IsNextWave es numbers x → AreLow (numbers ++ x ∷ [])
-low_more es numbers x low next j m =
+pub low_more : (Ps : List Parts) (pairs : List JobPair) (numbers : List ℕ) (x : ℕ) → AreLow numbers
+    → IsNextWave Ps pairs numbers x → AreLow (numbers ++ x ∷ [])
+low_more Ps pairs numbers x low next j m =
     let long = length_more numbers x in
     ⊎_elim
     (λ less.
@@ -56,35 +56,40 @@ low_more es numbers x low next j m =
     let small = next.low in omega (arith, two, small, same))
     (less-or-same j (length numbers) (omega (arith, m, long)))
 
--- The next wave is above those of the first jobs that may clash with the job.
-pub record IsAboveSome (es : List CheckFault) (numbers : List ℕ) (n next : ℕ) : Type 0 where
-  pub above : (i : ℕ) → i < n → may_clash es i (length numbers) ≡ true → wave_of numbers i < next
+-- A wave that the next job may be in by the first n pairs.
+pub record FollowsSome (Ps : List Parts) (pairs : List JobPair) (numbers : List ℕ) (n next : ℕ) :
+    Type 0 where
+  pub above : (k : ℕ) (p : JobPair) → k < n → slice_get pairs k ≡ Some p
+      → p.later ≡ length numbers → p.earlier < length numbers
+      → wave_of numbers p.earlier + gap Ps p.earlier p.later ≤ next
   pub low : next ≤ length numbers
 
-pub above_taken : (es : List CheckFault) (numbers : List ℕ) (n next x : ℕ) → AreLow numbers
-    → IsAboveSome es numbers n next → slice_get numbers n ≡ Some x → n < length numbers → next ≤ x
-    → IsAboveSome es numbers (n + 1) (x + 1)
-above_taken es numbers n next x low are at l more = record {
-  above = λ i m e. ⊎_elim
-      (λ less. let up = are.above i less e in omega (arith, up, more))
-      (λ same. let own = ap (wave_of numbers) same ∙ ap (λ o. unwrap_or o 0) at in omega (arith, own))
-      (less-or-same i n m);
-  low =
-      let own = ap (λ o. unwrap_or o 0) at in
-      let small = low n l in omega (arith, own, small, l);
+pub follows_none : (Ps : List Parts) (pairs : List JobPair) (numbers : List ℕ)
+    → FollowsSome Ps pairs numbers 0 0
+follows_none Ps pairs numbers = record {
+  above = λ k p l at e m. absurd (omega (arith, l));
+  low = omega arith;
 }
 
-pub above_passed : (es : List CheckFault) (numbers : List ℕ) (n next x : ℕ)
-    → IsAboveSome es numbers n next → slice_get numbers n ≡ Some x
-    → (may_clash es n (length numbers) ≡ true → x < next) → IsAboveSome es numbers (n + 1) next
-above_passed es numbers n next x are at less_if = record {
-  above = λ i m e. ⊎_elim
-      (λ less. are.above i less e)
-      (λ same.
-      let own = ap (wave_of numbers) same ∙ ap (λ o. unwrap_or o 0) at in
-      let up = less_if (ap (λ k. may_clash es k (length numbers)) (sym same) ∙ e) in
-      omega (arith, own, up))
-      (less-or-same i n m);
+pub follows_more : (Ps : List Parts) (pairs : List JobPair) (numbers : List ℕ) (n next x : ℕ)
+    (d : JobPair) → n < length pairs → FollowsSome Ps pairs numbers n next
+    → MayFollow Ps numbers (get_or pairs n d) x → FollowsSome Ps pairs numbers (n + 1) (max next x)
+follows_more Ps pairs numbers n next x d l are may =
+    let w = has-item pairs n l in
+    let own = subst (λ (q : JobPair). MayFollow Ps numbers q x)
+    (get_or_from_slice_get pairs n w.0 d w.1) may in
+    record {
+      above = also-here (λ (q : JobPair). q.later ≡ length numbers → q.earlier < length numbers
+          → wave_of numbers q.earlier + gap Ps q.earlier q.later ≤ max next x) pairs n w.0 w.1
+          (λ e m. let up = own.above e m in omega (arith, up))
+          (λ k q m at e f. let up = are.above k q m at e f in omega (arith, up));
+      low = let a = are.low in let b = own.low in omega (arith, a, b);
+    }
+
+pub follows_all : (Ps : List Parts) (pairs : List JobPair) (numbers : List ℕ) (n next : ℕ)
+    → length pairs ≤ n → FollowsSome Ps pairs numbers n next → IsNextWave Ps pairs numbers next
+follows_all Ps pairs numbers n next past are = record {
+  above = λ k p at. let l = slice_get_within pairs k p at in are.above k p (omega (arith, l, past)) at;
   low = are.low;
 }
 
@@ -114,12 +119,8 @@ count_passed numbers n count x are at less_now = record {
   some = are.some;
 }
 
--- Jobs that don't clash but by a line are kept apart.
-pub apart_by_lines : (Ps : List Parts) (es : List CheckFault) (numbers : List ℕ) → RiseBy es numbers
-    → ((i j : ℕ) → i ≢ j → may_clash es i j ≡ false → ¬ (JobsClash Ps i j))
-    → KeepApart Ps numbers
-apart_by_lines Ps es numbers rise free i j l m clash =
-    elim (may_clash es i j) as (λ b. may_clash es i j ≡ b → wave_of numbers i < wave_of numbers j) [
-      | true ↦ λ e. rise i j l m e
-      | false ↦ λ e. absurd (free i j (λ same. omega (arith, l, same)) e clash)
-    ] refl
+-- Jobs that clash stand in a pair, and so are kept apart.
+pub apart_by_pairs : (Ps : List Parts) (pairs : List JobPair) (numbers : List ℕ)
+    → RiseBy Ps pairs numbers → HaveEachClash Ps pairs → KeepApart Ps numbers
+apart_by_pairs Ps pairs numbers rise each i j l m clash =
+    let w = each i j l clash in rise w.0 (record { earlier = i; later = j }) w.1 l m

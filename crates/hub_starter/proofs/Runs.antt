@@ -9,14 +9,15 @@ use Rattle.hub_job.specs.declared.outcome.Outcome.{Outcome}
 use Rattle.hub_job.specs.declared.run_fault.RunFault.{RunFault}
 use Rattle.hub_job.specs.declared.run_fault.RunFault.TheVariants as fault
 use Rattle.hub_profile.specs.Parts.{Parts}
-use Rattle.hub_runner.specs.Part.{IsSettledBy, OthersWait}
+use Rattle.hub_runner.specs.Order.{IsSettledBy}
+use Rattle.hub_runner.specs.Part.{OthersWait}
 use Rattle.hub_runner.specs.Working.{AreWorkers, IsNotRun, MayRun}
 use Rattle.hub_schedule.specs.Refusals.{first_missing}
 use Rattle.hub_schedule.specs.Simulated.{HaveEnded}
 use Rattle.hub_state.specs.State.{IsState, State}
 use Rattle.hub_starter.specs.InOrder.{IsSerial}
 use Rattle.hub_starter.specs.Waved.{AllWaves, AreMergedEnds, FirstWave, IsAfterWaves, IsNoJob, IsWaveOf, OfWaves, OneMoreWave, WaveIsSerial, part_for}
-use Rattle.hub_starter.specs.Waves.{AreWavesOf, WavesValue}
+use Rattle.hub_starter.specs.Waves.{AreWaves, WavesValue}
 
 -- No job.
 abbrev pub NoneIsSerial : Type 0
@@ -80,11 +81,11 @@ has_profiles M N Ps b e f is off =
     ap (λ (Qs : List Parts). length Qs == 0) (sym same) ∙ (sym is ∙ off) in
     grind (arith, nat_tests, none)
 
-module _ (S : State) (w : WavesValue) (are : AreWavesOf w.set w.numbers w.count)
+module _ (S : State) (w : WavesValue) (are : AreWaves w)
     (valid : HasValidProfiles w.set) (state : IsState S) (n : ℕ) where
   -- One wave.
   pub one_wave : OfWaves WaveIsSerial → (k : ℕ) (part : List Bool) (o : Outcome)
-      → part ≡ part_for w.numbers k → IsSettledBy S w.set.profiles o → OthersWait part o
+      → part ≡ part_for w.numbers k → IsSettledBy S w.set.profiles w.pairs o → OthersWait part o
       → HaveEnded o.jobs → MayRun S w.set.profiles n → IsState o.state → IsWaveOf S w k o
   one_wave law k part o is settled wait ended may left =
       law S w are valid state may.1 k o settled

@@ -5,13 +5,14 @@ use Rattle.hub_job.specs.declared.job_end.JobEnd.{JobEnd}
 use Rattle.hub_job.specs.declared.outcome.Outcome.{Outcome}
 use Rattle.hub_schedule.specs.Refusals.{first_missing}
 use Rattle.hub_schedule.specs.Simulated.{HaveEnded}
-use Rattle.hub_runner.specs.Part.{IsSettledBy, OthersWait, without_turns}
+use Rattle.hub_runner.specs.Order.{IsSettledBy}
+use Rattle.hub_runner.specs.Part.{OthersWait, without_turns}
 use Rattle.hub_cert.specs.Set.{HasValidProfiles}
 use Rattle.hub_serial.specs.Schedule.{serial_turns}
 use Rattle.hub_serial.specs.World.{run}
 use Rattle.hub_starter.specs.InOrder.{IsSerial, KeepsWhatIsThere}
 use Rattle.hub_starter.specs.Opened.{opening_of, turns_in, world_of}
-use Rattle.hub_starter.specs.Waves.{AreWavesOf, WavesValue, jobs_by_wave, jobs_in_wave, wave_of}
+use Rattle.hub_starter.specs.Waves.{AreWaves, WavesValue, jobs_by_wave, jobs_in_wave, wave_of}
 
 -- The outcome shows the world after the turns of these jobs one after another, each with as many as
 -- its log has entries, and one for its end.
@@ -62,13 +63,13 @@ part_for numbers k = map (λ own. own == k) numbers
 -- The claim holds of a set's waves and a state, where the state is whole and has all replicas.
 abbrev pub OfWaves : (State → WavesValue → Type 0) → Type 0
 OfWaves C =
-    (S : State) (w : WavesValue) → AreWavesOf w.set w.numbers w.count → HasValidProfiles w.set
+    (S : State) (w : WavesValue) → AreWaves w → HasValidProfiles w.set
     → IsState S → first_missing S w.set.profiles ≡ None → C S w
 
 -- What is settled of a wave is an outcome of it.
 abbrev pub WaveIsSerial : State → WavesValue → Type 0
 WaveIsSerial S w =
-    (k : ℕ) (o : Outcome) → IsSettledBy S w.set.profiles o
+    (k : ℕ) (o : Outcome) → IsSettledBy S w.set.profiles w.pairs o
     → OthersWait (part_for w.numbers k) o → HaveEnded o.jobs → IsState o.state → IsWaveOf S w k o
 
 -- The first wave is one, and one wave after others makes one more.

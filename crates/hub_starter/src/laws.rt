@@ -12,8 +12,8 @@ ghost use Rattle.hub_starter.specs.Waves.{NoneBreaks, NoOwnLines, may_clash};
 
 use hub_cert::laws::certificates_make_a_set_safe;
 use hub_serial::laws::{
-    ends_may_come_in_any_order, equivalent_schedules_leave_the_same, jobs_work_in_turn,
-    whenever_they_start_it_is_as_serial,
+    ends_may_come_in_any_order, equivalent_schedules_leave_the_same, histories_in_order_are_serial,
+    jobs_work_in_turn,
 };
 use hub_tree::laws::a_set_keeps_trees;
 
@@ -27,12 +27,13 @@ pub fn jobs_without_a_line_do_not_clash()
     certificates_make_a_set_safe();
 }
 
-/// What the jobs of a wave leave, however their turns interleave, is what they leave one after another.
+/// What the jobs of a wave leave is what they leave one after another, however their turns interleave, if in each root's history
+/// those that clash stand in order.
 pub fn a_wave_is_serial()
     ensures { OfWaves WaveIsSerial }
 {
     ends_may_come_in_any_order();
-    whenever_they_start_it_is_as_serial();
+    histories_in_order_are_serial();
 }
 
 /// What waves leave, one after another, is what their jobs leave one after another; and in the end what all jobs leave in the

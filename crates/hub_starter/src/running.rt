@@ -20,8 +20,9 @@ use std::alloc::{AllocError, Global};
 use std::sync::Wait;
 use std::thread::Threads;
 
-/// Runs the jobs of a set, so that they leave what they leave one after another, in the order of their profiles. The jobs of a wave
-/// run at the same time, by `run_part`, on what the waves before left. `state` stays as it is.
+/// Runs the jobs of a set, so that they leave what they leave one after another, in the order of their profiles. The jobs of a
+/// wave run at the same time, by `run_part`, on what the waves before left: each starts as soon as all earlier jobs of the wave
+/// have ended that it may clash with. `state` stays as it is.
 ///
 /// A stopped job leaves what some number of its turns leaves, and its archive stays. The jobs after it go on from there.
 ///
@@ -114,7 +115,8 @@ fn run_wave<G: Gate + Sync, R: Threads + Wait + Sync>(
     // The contract says that the state is valid.
     let _ = find_missing(set.profiles(), state);
     let part = part_of(alloc, waves.numbers(), wave)?;
-    let outcome = run_part(rt, alloc, set, state, part.as_slice(), workers, gate)?;
+    let pairs = waves.pairs();
+    let outcome = run_part(rt, alloc, set, state, part.as_slice(), pairs, workers, gate)?;
     let _ = find_missing(set.profiles(), &outcome.state);
     Ok(outcome)
 }

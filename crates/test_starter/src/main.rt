@@ -2,7 +2,8 @@
 //! from the rules; so the program is a test of `hub_starter`.
 //!
 //! The questions are written as `test_kit` says, but without abbreviations. A line of the input gives something to the questions
-//! below it, or it is a question. What answers needs threads, so each line is taken here: `test_kit::Answers` has no place for that.
+//! below it, or it is a question. What answers needs threads, so each line is taken here: `test_kit::Answers` has no place for
+//! that.
 //!
 //! These lines give something (`test_cases`):
 //!
@@ -15,8 +16,11 @@
 //! - `waves`: the wave of each job, or why there are none.
 //! - `order WORKERS`: what the jobs leave that run in order.
 //! - `orders COUNT WORKERS`: whether so many runs leave what the jobs leave one by one, each as a part of its own.
+//! - `hold WORKERS JOB UNTIL`: which jobs have ended when the job of that number makes its first step, for which it waits until the
+//!   other one has ended.
 #![tactic(auto)]
 
+mod hold;
 mod orders;
 
 use anyhow::Result;

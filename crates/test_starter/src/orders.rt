@@ -1,5 +1,6 @@
 //! Jobs that run in order.
 
+use crate::hold::Hold;
 use anyhow::{Result, bail};
 use hub_cert::ProfileSet;
 use hub_history::Gate;
@@ -60,6 +61,14 @@ fn answer_of_waves<R: Threads + Wait + Sync>(
             first.parse::<usize>()?,
             second.parse::<usize>()?,
         ),
+        "hold" => hold_text(
+            rt,
+            alloc,
+            waves,
+            &case.state()?,
+            first.parse::<usize>()?,
+            second,
+        ),
         _ => bail!("no question: {word}"),
     }
 }
@@ -101,6 +110,24 @@ fn orders_text<R: Threads + Wait + Sync>(
     Ok(format!(in alloc; "{count} leave what the jobs leave one by one")?)
 }
 
+/// Which jobs have ended when one of them goes on that waits for another one.
+fn hold_text<R: Threads + Wait + Sync>(
+    rt: &R,
+    alloc: Global,
+    waves: &Waves<'_>,
+    state: &State,
+    workers: usize,
+    fields: &str,
+) -> Result<String> {
+    let (job, until) = cut(fields);
+    let jobs = waves.set().profiles().len();
+    let hold = Hold::new(alloc, jobs, job.parse::<usize>()?, until.parse::<usize>()?)?;
+    match run_in_order(rt, alloc, waves, state, workers, &hold) {
+        Ok(_) => hold.text(alloc),
+        Err(fault) => Ok(format!(in alloc; "{fault}")?),
+    }
+}
+
 /// What the jobs leave, each alone, one after another in the order of the profiles.
 fn one_by_one<R: Threads + Wait + Sync>(
     rt: &R,
@@ -132,7 +159,7 @@ fn alone<R: Threads + Wait + Sync>(
     for number in 0..set.profiles().len() {
         part.push(number == job)?;
     }
-    match run_part(rt, alloc, set, state, part.as_slice(), 1, &Open) {
+    match run_part(rt, alloc, set, state, part.as_slice(), &[], 1, &Open) {
         Ok(outcome) => Ok(outcome),
         Err(fault) => bail!("job {job}: {fault}"),
     }

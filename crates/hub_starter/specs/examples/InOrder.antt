@@ -1,24 +1,31 @@
 -- Worked examples of waves, and of jobs one after another.
 use Rattle.std.specs.Prelude.{◌≡◌, ℕ, zero, suc, true, false, List, [], ◌∷◌, refl, codes}
-use Rattle.std.proofs.Common.{arith}
+use Rattle.std.proofs.lemmas.Option.{same_Some}
+use Rattle.std.proofs.Common.{ap, arith}
 use Rattle.hub_path.specs.Path.{path_of}
 use Rattle.hub_path.specs.declared.side.Side.TheVariants.{Left}
-use Rattle.hub_profile.specs.examples.Profiles.{hub, s1}
+use Rattle.hub_profile.specs.Parts.{Parts}
+use Rattle.hub_profile.specs.examples.Profiles.{between, hub, s1, s2}
 use Rattle.hub_cert.specs.declared.fault.CheckFault.{CheckFault}
 use Rattle.hub_cert.specs.declared.fault.CheckFault.TheVariants as fault
 use Rattle.hub_cert.specs.declared.goal.Goal.TheVariants as goal
 use Rattle.hub_cert.specs.declared.goal.Place.TheVariants.{Replica, Archive}
+use Rattle.hub_job.specs.declared.answer.Answer.TheVariants.{Done}
 use Rattle.hub_job.specs.declared.job_end.JobEnd.{JobEnd}
+use Rattle.hub_job.specs.declared.log.Entry.{Entry}
+use Rattle.hub_job.specs.declared.op.Op.TheVariants.{Look}
+use Rattle.hub_runner.specs.Order.{StandInOrder}
 use Rattle.hub_runner.specs.Part.{without_turns}
+use Rattle.hub_runner.specs.declared.pairs.JobPair.{JobPair}
 use Rattle.hub_serial.specs.World.{World, opening, pair_of}
 use Rattle.hub_serial.specs.examples.Clashes.{looked, marks, there, twice}
 use Rattle.hub_serial.specs.examples.Jobs.{two_starts_clash}
 use Rattle.hub_serial.specs.examples.Starts.{P}
 use Rattle.hub_starter.specs.InOrder.{IsPartOf, PartsInOrder}
 use Rattle.hub_starter.specs.Opened.{is_root_pair}
-use Rattle.hub_starter.specs.Waves.{KeepApart, jobs_by_wave, may_clash}
+use Rattle.hub_starter.specs.Waves.{KeepApart, gap, jobs_by_wave, may_clash, pairs_in}
 
--- Job 1 clashes with job 0, and job 3 with job 1.
+-- Job 1 needs the archive that job 0 leaves, and job 3 that of job 1.
 abbrev waves : List ℕ
 waves = 0 ∷ 1 ∷ 0 ∷ 2 ∷ []
 
@@ -28,10 +35,24 @@ wave_by_wave = refl
 the_first_two_waves : jobs_by_wave waves 2 ≡ 0 ∷ 2 ∷ 1 ∷ []
 the_first_two_waves = refl
 
--- Two starts of one profile clash, so the second one is in a later wave.
+-- Two starts of one profile clash and have one archive, so the second one is in a later wave.
+one_archive : gap twice 0 1 ≡ 1
+one_archive = refl
+
+-- Two profiles with one root in common have different archives: their jobs may be in one wave.
+abbrev two_spokes : List Parts
+two_spokes = between (codes "a") hub s1 [] ∷ between (codes "b") hub s2 [] ∷ []
+
+no_common_archive : gap two_spokes 0 1 ≡ 0
+no_common_archive = refl
+
+whichever_root_is_left : gap (between (codes "a") hub s1 [] ∷ between (codes "b") s1 hub [] ∷ []) 0 1
+    ≡ 1
+whichever_root_is_left = refl
+
 one_after_the_other : KeepApart twice (0 ∷ 1 ∷ [])
 one_after_the_other zero zero l m clash = absurd (omega (arith, l))
-one_after_the_other zero (suc zero) l m clash = omega arith
+one_after_the_other zero (suc zero) l m clash = let one = one_archive in omega (arith, one)
 one_after_the_other zero (suc (suc j)) l m clash = absurd (omega (arith, m))
 one_after_the_other (suc i) zero l m clash = absurd (omega (arith, l))
 one_after_the_other (suc i) (suc zero) l m clash = absurd (omega (arith, l))
@@ -39,11 +60,13 @@ one_after_the_other (suc i) (suc (suc j)) l m clash = absurd (omega (arith, m))
 
 not_in_one_wave : ¬ (KeepApart twice (0 ∷ 0 ∷ []))
 not_in_one_wave apart =
-    let l = apart 0 1 (omega arith) (omega arith) two_starts_clash in omega (arith, l)
+    let l = apart 0 1 (omega arith) (omega arith) two_starts_clash in
+    let one = one_archive in omega (arith, l, one)
 
 nor_the_other_way_round : ¬ (KeepApart twice (1 ∷ 0 ∷ []))
 nor_the_other_way_round apart =
-    let l = apart 0 1 (omega arith) (omega arith) two_starts_clash in omega (arith, l)
+    let l = apart 0 1 (omega arith) (omega arith) two_starts_clash in
+    let one = one_archive in omega (arith, l, one)
 
 -- Lines: an overlap, and a goal that is too large.
 abbrev lines : List CheckFault
@@ -59,6 +82,37 @@ undecided_counts_too = refl
 
 no_line_of_both : may_clash lines 0 1 ≡ false
 no_line_of_both = refl
+
+-- Of each pair the lower number comes first.
+one_pair_a_line : pairs_in lines
+    ≡ record { earlier = 0; later = 2 } ∷ record { earlier = 1; later = 3 } ∷ []
+one_pair_a_line = refl
+
+-- Entries of jobs in a history: job 2 must wait for job 0.
+abbrev pair : JobPair
+pair = record { earlier = 0; later = 2 }
+
+abbrev by : ℕ → Entry
+by j = record { job = j; op = Look []; answer = Done }
+
+others_may_stand_between : StandInOrder pair (by 0 ∷ by 1 ∷ by 2 ∷ [])
+others_may_stand_between zero zero e f at there own later =
+    let job = ap (λ (x : Entry). x.job) (same_Some (by 0) f there) in absurd (omega (arith, job, later))
+others_may_stand_between zero (suc zero) e f at there own later = omega arith
+others_may_stand_between zero (suc (suc b)) e f at there own later = omega arith
+others_may_stand_between (suc zero) b e f at there own later =
+    let job = ap (λ (x : Entry). x.job) (same_Some (by 1) e at) in absurd (omega (arith, job, own))
+others_may_stand_between (suc (suc zero)) b e f at there own later =
+    let job = ap (λ (x : Entry). x.job) (same_Some (by 2) e at) in absurd (omega (arith, job, own))
+others_may_stand_between (suc (suc (suc a))) b e f at there own later = cc
+
+not_the_later_one_first : ¬ (StandInOrder pair (by 2 ∷ by 0 ∷ []))
+not_the_later_one_first keeps =
+    let l = keeps 1 0 (by 0) (by 2) refl refl refl refl in omega (arith, l)
+
+nor_in_the_midst_of_the_earlier : ¬ (StandInOrder pair (by 0 ∷ by 2 ∷ by 0 ∷ []))
+nor_in_the_midst_of_the_earlier keeps =
+    let l = keeps 2 1 (by 0) (by 2) refl refl refl refl in omega (arith, l)
 
 -- Pairs of roots.
 its_roots_are_a_pair : is_root_pair (pair_of P) ≡ true

@@ -3,5 +3,5 @@ use Rattle.hub_starter.proofs.laws.a_wave_is_serial.Goals as goal
 
 pub returns : goal.returns
 returns c = λ S w are valid state there k o settled wait ended left.
-    settled_wave c.whenever_they_start_it_is_as_serial.ensures c.ends_may_come_in_any_order.ensures S w are
+    settled_wave c.histories_in_order_are_serial.ensures.serial c.ends_may_come_in_any_order.ensures S w are
     valid state there k o settled wait ended left

@@ -1,8 +1,9 @@
-use Rattle.std.proofs.Common.{◌∙◌, ap, subst}
+use Rattle.std.proofs.Common.{◌∙◌, List, ap, subst}
 use Rattle.hub_text.specs.laws.Fails.{passed-up}
 use Rattle.hub_cert.specs.Set.{HasValidProfiles, Members}
 use Rattle.hub_job.specs.declared.outcome.Outcome.{Outcome}
-use Rattle.hub_runner.specs.Part.{IsSettledBy}
+use Rattle.hub_runner.specs.Order.{IsSettledBy}
+use Rattle.hub_runner.specs.declared.pairs.JobPair.{JobPair}
 use Rattle.hub_runner.specs.Working.{IsNotRun, MayRun}
 use Rattle.hub_starter.specs.Waved.{part_for}
 use Rattle.hub_starter.proofs.Runs.{one_wave, some_profiles}
@@ -45,7 +46,8 @@ returns-clause-wave g c =
     one_wave S w c.set-set.ensures.are (subst HasValidProfiles same c.profiles.ensures.valid)
     (c.find_missing.ensures.valid some) c.args.workers c.a_wave_is_serial.ensures c.args.wave c.as_slice.result.now o
     (c.as_slice.ensures.value ∙ (c.in_ok-part.ensures ∙ ap (λ ns. part_for ns c.args.wave) c.numbers.ensures))
-    (subst (λ (M : Members). IsSettledBy S M.profiles o) same c.in_ok-outcome.ensures.settled)
+    (subst (λ (M : Members). IsSettledBy S M.profiles w.pairs o) same
+    (subst (λ (ps : List JobPair). IsSettledBy S c.set-set.result.now.profiles ps o) c.pairs-pairs.ensures c.in_ok-outcome.ensures.settled))
     c.in_ok-outcome.ensures.rest c.in_ok-outcome.ensures.ended
     (subst (λ (M : Members). MayRun S M.profiles c.args.workers) same c.in_ok-outcome.ensures.run)
     (c.find_missing-2.ensures.valid some_left)

@@ -1,5 +1,5 @@
-use Rattle.hub_starter.proofs.Rising.{IsAboveSome}
+use Rattle.hub_starter.proofs.Rising.{FollowsSome}
 use Rattle.hub_starter.proofs.waves.next_wave.Given as goal
 
-abbrev pub invariant-loop-earlier : goal.invariant-loop-earlier
-invariant-loop-earlier l = IsAboveSome l.lines l.numbers l.earlier l.next
+abbrev pub invariant-loop-pair : goal.invariant-loop-pair
+invariant-loop-pair l = FollowsSome l.profiles l.pairs l.numbers l.pair-index l.next

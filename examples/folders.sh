@@ -652,33 +652,32 @@ LINES
 try_archives() {
     local here
     here=$(pwd -P)
-    local lies="hubsync: note: $here/archives/home/.unison lies in $here/archives/home, a root of"
-    local own='Unison would synchronize its own archives'
+    local folder="hubsync: $here/archives/home/.unison is in a root of"
+    local own='Unison would synchronize its own archives, while it writes them'
+    local remedy='hubsync: add ignore = Path .unison, and keep nothing there by a path line'
     put archives/home/.unison/docs.prf "root = $here/archives/home" 'root = /srv/docs'
-    ask 0 check --unison archives/home/.unison <<LINES
-safe
-$assumed
-$lies archives/home/.unison/docs.prf: $own: add ignore = Path .unison
+    ask 2 check --unison archives/home/.unison <<LINES
+fault: archives/home/.unison/docs.prf: ArchivesInRoot
+$folder archives/home/.unison/docs.prf: $own
+$remedy
 LINES
-    ask 1 check --unison --strict archives/home/.unison/docs.prf <<LINES
-safe
-$assumed
-$lies archives/home/.unison/docs.prf: $own: add ignore = Path .unison
+    ask 2 plan archives/home/.unison/docs.prf <<LINES
+fault: archives/home/.unison/docs.prf: ArchivesInRoot
+$folder archives/home/.unison/docs.prf: $own
+$remedy
 LINES
     (
         cd archives/home/.unison
-        ask 0 check --unison docs.prf <<LINES
-safe
-$assumed
-$lies docs.prf: $own: add ignore = Path .unison
+        ask 2 check --unison docs.prf <<LINES
+fault: docs.prf: ArchivesInRoot
+$folder docs.prf: $own
+$remedy
 LINES
         cd ..
-        ask 0 rounds --unison ./.unison/../.unison/ <<LINES
-rounds 1
-at least 1
-round 1 docs
-$assumed
-$lies ./.unison/../.unison/docs.prf: $own: add ignore = Path .unison
+        ask 2 rounds --unison ./.unison/../.unison/ <<LINES
+fault: ./.unison/../.unison/docs.prf: ArchivesInRoot
+$folder ./.unison/../.unison/docs.prf: $own
+$remedy
 LINES
     )
     put archives/home/more/photos.prf 'root = /srv/hub' 'root = /srv/photos'
@@ -687,29 +686,38 @@ safe
 $assumed
 LINES
     local each
-    for each in 'ignore = Path .unison' 'ignore = Name .unison' 'path = docs' $'ignore = BelowPath .unison\r'; do
+    for each in 'ignore = Path .unison' 'ignore = Name .*' 'ignore = Name {.unison,x}' 'path = docs' $'ignore = BelowPath .unison\r'; do
         put archives/home/.unison/docs.prf "root = $here/archives/home" 'root = /srv/docs' "$each"
         ask 0 check --unison --strict archives/home/.unison <<LINES
 safe
 $assumed
 LINES
     done
-    ask 0 check --unison archives/home/.unison archives/home/more <<LINES
-safe
-$assumed
-hubsync: note: $here/archives/home/more lies in $here/archives/home, a root of archives/home/.unison/docs.prf: $own: add ignore = Path more
+    for each in 'path = .unison/old' 'ignore = Path .unison/x' 'ignore = Path .unison -> x'; do
+        put archives/home/.unison/docs.prf "root = $here/archives/home" 'root = /srv/docs' 'ignorenot = Path y' "$each"
+        ask 2 check --unison archives/home/.unison <<LINES
+fault: archives/home/.unison/docs.prf: ArchivesInRoot
+$folder archives/home/.unison/docs.prf: $own
+$remedy
 LINES
-    put archives/table "desk $here/archives"
+    done
+    put archives/home/.unison/docs.prf "root = $here/archives/home" 'root = /srv/docs' 'ignore = Path .unison'
+    ask 2 check --unison archives/home/.unison archives/home/more <<LINES
+fault: archives/home/.unison/docs.prf: ArchivesInRoot
+hubsync: $here/archives/home/more is in a root of archives/home/.unison/docs.prf: $own
+hubsync: add ignore = Path more, and keep nothing there by a path line
+LINES
+    put archives/table 'desk /hosts/desk'
     put archives/home/.unison/docs.prf 'root = ssh://desk//home' 'root = /srv/docs'
     ask 0 check --unison --strict archives/home/.unison --hosts archives/table <<LINES
 safe
 $assumed
 LINES
     put archives/home/.unison/docs.prf "root = $here/archives/home/.unison" 'root = /srv/docs' 'ignore = Name *'
-    ask 0 check --unison archives/home/.unison <<LINES
-safe
-$assumed
-hubsync: note: $here/archives/home/.unison is a root of archives/home/.unison/docs.prf: $own
+    ask 2 check --unison archives/home/.unison <<LINES
+fault: archives/home/.unison/docs.prf: ArchivesInRoot
+$folder archives/home/.unison/docs.prf: $own
+hubsync: it is the root: synchronize another folder
 LINES
 }
 

@@ -1,2 +1,5 @@
+mod LookedFacts
+mod NotedFacts
 mod OperandFacts
 mod ToldFacts
+mod UntoldFacts

@@ -29,7 +29,7 @@ pub without-root-any : (t : Told)
     ≡ (not (have_root (lines_told t)) && list_any (λ l. says_something l.text) (lines_told t))
 without-root-any t = λ i. not (root-any t i) && any-map (λ l. says_something l.text) of_line t.lines.items i
 
-lines-told : (known : Known) (t : Told) → IsTold known t → lines_in known (file_told t) ≡ lines_told t
+pub lines-told : (known : Known) (t : Told) → IsTold known t → lines_in known (file_told t) ≡ lines_told t
 lines-told known t h = ap told_lines h
 
 includes-told : (known : Known) (name : List ℕ) (t : Told) → IsTold known t
@@ -42,13 +42,13 @@ any-told known name [] a = refl
 any-told known name (t ∷ ts) a =
     (λ i. includes-told known name t (All-head (IsTold known) t ts a) i || any-told known name ts (All-tail (IsTold known) t ts a) i)
 
-included-told : (known : Known) (name : List ℕ) (ts : List Told) → All (IsTold known) ts
+pub included-told : (known : Known) (name : List ℕ) (ts : List Told) → All (IsTold known) ts
     → is_included known (map file_told ts) name ≡ list_any (includes_told name) ts
 included-told known name ts a =
     sym (any-map (λ other. not (bytes_eq other name) && have_file name (lines_in known other)) file_told ts)
     ∙ any-told known name ts a
 
-profile-told : (known : Known) (all : List Told) (t : Told) → All (IsTold known) all → IsTold known t
+pub profile-told : (known : Known) (all : List Told) (t : Told) → All (IsTold known) all → IsTold known t
     → is_profile known (map file_told all) (file_told t) ≡ is_profile_told all t
 profile-told known all t a h =
     λ i. have_root (lines-told known t h i) && not (included-told known (file_told t) all a i)
@@ -58,7 +58,7 @@ picked : (known : Known) (place : List ℕ) (all : List Told) (t : Told) (rest :
 picked known place all t rest b c h e =
     λ i. cond (e i) ((place ++ file_told t, text_of (lines-told known t h i)) ∷ rest) rest
 
-map-cond : {X Y : Type 0} (f : X → Y) (x : X) (xs : List X) (b : Bool) → map f (cond b (x ∷ xs) xs) ≡ cond b (f x ∷ map f xs) (map f xs)
+pub map-cond : {X Y : Type 0} (f : X → Y) (x : X) (xs : List X) (b : Bool) → map f (cond b (x ∷ xs) xs) ≡ cond b (f x ∷ map f xs) (map f xs)
 map-cond f x xs true = refl
 map-cond f x xs false = refl
 
@@ -111,9 +111,9 @@ picked-bytes place all (t ∷ ts) = by (is_profile_told all t) (picked-bytes pla
 pub untaken-after : (reads : Reads) (place : List ℕ) (taken : ℕ) (before : List (List ℕ)) (name : List ℕ) (e : Untaken)
     → IsUntaken reads place name e → IsUntakenAfter reads place taken before name e
 untaken-after reads place taken before name (untaken.File path fault) h = h
-untaken-after reads place taken before name (untaken.Gone path) h = h
-untaken-after reads place taken before name (untaken.Folder path fault) h = h
-untaken-after reads place taken before name (untaken.Line path fault) h = h
+untaken-after reads place taken before name (untaken.Gone path) h = absurd h
+untaken-after reads place taken before name (untaken.Folder path fault) h = absurd h
+untaken-after reads place taken before name (untaken.Line path fault) h = absurd h
 untaken-after reads place taken before name (untaken.TooManyFiles path) h = h
 untaken-after reads place taken before name (untaken.TooLong path) h = absurd h
 untaken-after reads place taken before name untaken.OutOfMemory h = h
@@ -133,6 +133,7 @@ over-limit reads place taken bytes known ts t (untaken.TooLong path) agrees all 
       agrees,
       h.0,
       omega (arith, h.1, sum, sum_by_push f (map file_told ts) (file_told t), told-bytes known ts all, ap (λ ls. length (text_of ls)) (lines-told known t one)),
+      told-each known (map file_told ts) ts (record { names_are = refl; lines_are = all }),
     )
 over-limit reads place taken bytes known ts t untaken.OutOfMemory agrees all one sum h = tt
 

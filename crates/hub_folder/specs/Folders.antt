@@ -57,6 +57,33 @@ abbrev pub is_profile : Known → List (List ℕ) → List ℕ → Bool
 is_profile known names name =
     have_root (lines_in known name) && not (is_included known names name)
 
+-- Some of these lines say something.
+abbrev pub say_something : Lines → Bool
+say_something ls = list_any (λ l. says_something l.text) ls
+
+-- A profile leaves out a file of the folder: that one sets a root, and this one is another and
+-- includes it.
+abbrev pub leaves_out : Known → List ℕ → List ℕ → Bool
+leaves_out known name other =
+    have_root (lines_in known other)
+    && (not (bytes_eq name other) && have_file other (lines_in known name))
+
+-- The paths of those that it leaves out.
+abbrev pub left_out_by : Known → List ℕ → List (List ℕ) → List ℕ → List (List ℕ)
+left_out_by known place names name =
+    map (λ other. place ++ other) (filter (leaves_out known name) names)
+
+-- A file of the folder sets no root and says something else, and no other one of these includes it.
+abbrev pub is_rootless : Known → List (List ℕ) → List ℕ → Bool
+is_rootless known names name =
+    (not (have_root (lines_in known name)) && say_something (lines_in known name))
+    && not (is_included known names name)
+
+-- The paths of those files.
+abbrev pub rootless_of : Known → List ℕ → List (List ℕ) → List (List ℕ)
+rootless_of known place names =
+    map (λ name. place ++ name) (filter (is_rootless known names) names)
+
 -- The profiles of a folder: the path of each file, and its text.
 abbrev pub profile_of : Known → List ℕ → List ℕ → List ℕ × List ℕ
 profile_of known place name = (place ++ name, text_of (lines_in known name))
@@ -64,6 +91,11 @@ profile_of known place name = (place ++ name, text_of (lines_in known name))
 abbrev pub profiles_of : Known → List ℕ → List (List ℕ) → List (List ℕ × List ℕ)
 profiles_of known place names =
     map (profile_of known place) (filter (is_profile known names) names)
+
+-- The paths of the files that each of them leaves out.
+abbrev pub left_out_of : Known → List ℕ → List (List ℕ) → List (List (List ℕ))
+left_out_of known place names =
+    map (left_out_by known place names) (filter (is_profile known names) names)
 
 -- A folder's path, as it stands before the names of its files.
 abbrev pub place_of : List ℕ → List ℕ

@@ -1,5 +1,6 @@
--- What reads of files give, and what folders list.
+-- What reads of files give, what folders list, and which folder a file is in.
 use Rattle.std.specs.Prelude.{◌≡◌, ℕ, List, Option, IfSome, codes}
+use Rattle.hub_path.specs.Path.{Path}
 use Rattle.hub_folder.specs.declared.reader.ReadFault.{ReadFault}
 use Rattle.hub_folder.specs.declared.reader.ReadFault.TheVariants as fault
 use Rattle.hub_folder.specs.declared.reader.Unread.{Unread}
@@ -34,6 +35,10 @@ HasBytes reads file bytes = IfSome (reads file) (λ r. r ≡ Bytes bytes)
 abbrev pub HasFault : Reads → List ℕ → ReadFault → Type 0
 HasFault reads file fault = IfSome (reads file) (λ r. r ≡ read_of fault)
 
+-- or there is no such file,
+abbrev pub IsMissing : Reads → List ℕ → Type 0
+IsMissing reads file = IfSome (reads file) (λ r. r ≡ Missing)
+
 -- or it wasn't read for this reason.
 abbrev pub IsUnread : Reads → List ℕ → Unread → Type 0
 IsUnread reads file (unread.File fault) = HasFault reads file fault
@@ -60,3 +65,11 @@ HasListFault lists folder fault = IfSome (lists folder) (λ l. l ≡ Unlisted (f
 abbrev pub IsUnlisted : Lists → List ℕ → Unread → Type 0
 IsUnlisted lists folder (unread.File fault) = HasListFault lists folder fault
 IsUnlisted lists folder unread.OutOfMemory = Unit {0}
+
+-- The folders of files by their paths, where it is known: the folder's path, or that it can't be told.
+abbrev pub Folders : Type 0
+Folders = List ℕ → Option (Option Path)
+
+-- The folder of the file of this path is that, or can't be told, if that is known.
+abbrev pub HasFolder : Folders → List ℕ → Option Path → Type 0
+HasFolder folders file folder = IfSome (folders file) (λ told. folder ≡ told)

@@ -1,16 +1,19 @@
 -- Files and their lines, as code has them.
-use Rattle.std.specs.Prelude.{◌≡◌, ◌&&◌, ◌+◌, ◌<◌, ◌++◌, not, ℕ, Bool, List, Ok, filter, length, map, sum_by, bytes_eq, string_bytes}
+use Rattle.std.specs.Prelude.{◌≡◌, ◌&&◌, ◌+◌, ◌<◌, ◌++◌, not, ℕ, Bool, List, Ok, String, filter, length, map, sum_by, bytes_eq, string_bytes}
+use Rattle.std.specs.Global.{Global}
 use Rattle.std.specs.List.{All, list_any}
 use denote.Ref.{Bor}
 use Rattle.hub_include.specs.Bundle.{text_of}
 use Rattle.hub_include.specs.Files.{Known}
 use Rattle.hub_include.specs.Includes.{Lines, lines_of, of_line}
-use Rattle.hub_folder.specs.Folders.{AreProfiles, have_file, have_root, says_something}
+use Rattle.hub_folder.specs.Folders.{AreProfiles, have_file, have_root, say_something}
+use Rattle.hub_folder.specs.Noted.{Noted, AreNoted, IsNoted, IsNotedFolder}
 use Rattle.hub_folder.specs.Operands.{AreNamed, IsNamed, bytes_in}
 use Rattle.hub_folder.specs.Reading.{Lists, Reads}
 use Rattle.hub_folder.specs.declared.fault.Untaken.{Untaken}
 use Rattle.hub_folder.specs.declared.fault.Untaken.TheVariants as untaken
 use Rattle.hub_folder.specs.declared.folder.FolderProfile.{FolderProfile}
+use Rattle.hub_folder.specs.declared.folder.TakenProfiles.{TakenProfiles}
 use Rattle.hub_folder.specs.declared.shelf.TheConstants.{INCLUDED_BYTES}
 use Rattle.hub_folder.specs.declared.told.Told.{Told}
 
@@ -39,8 +42,24 @@ is_profile_told ts t =
 -- A file sets no root and says something else, and no other one of these includes it.
 abbrev pub is_rootless_told : List Told → Told → Bool
 is_rootless_told ts t =
-    (not (have_root (lines_told t)) && list_any (λ l. says_something l.text) (lines_told t))
+    (not (have_root (lines_told t)) && say_something (lines_told t))
     && not (list_any (includes_told (file_told t)) ts)
+
+-- A file leaves out another one: that sets a root, and this one includes it.
+abbrev pub leaves_out_told : Told → Told → Bool
+leaves_out_told t other = have_root (lines_told other) && includes_told (file_told other) t
+
+-- The paths of those of some files that it leaves out, and of those that are rootless among all.
+abbrev pub left_out_told : List ℕ → List Told → Told → List (List ℕ)
+left_out_told place ts t =
+    map (λ other. place ++ file_told other) (filter (leaves_out_told t) ts)
+
+abbrev pub rootless_told : List ℕ → List Told → List Told → List (List ℕ)
+rootless_told place all ts = map (λ t. place ++ file_told t) (filter (is_rootless_told all) ts)
+
+-- The paths that are left out by each profile among some of these files.
+abbrev pub left_outs_told : List ℕ → List Told → List Told → List (List (List ℕ))
+left_outs_told place all ts = map (left_out_told place all) (filter (is_profile_told all) ts)
 
 -- The bytes of the texts of some files.
 abbrev pub bytes_told : Told → ℕ
@@ -66,6 +85,18 @@ profiles_told place all ts = map (profile_told place) (filter (is_profile_told a
 abbrev pub path_and_text : FolderProfile → List ℕ × List ℕ
 path_and_text p = (string_bytes p.path, p.text.items)
 
+-- The paths of the files that it leaves out.
+abbrev pub paths_left_out : FolderProfile → List (List ℕ)
+paths_left_out p = map string_bytes p.left_out.items
+
+-- Profiles, and the paths of rootless files.
+abbrev pub noted_of : List FolderProfile → List (String Global) → Noted
+noted_of ps paths = record {
+  files = map path_and_text ps;
+  left_out = map paths_left_out ps;
+  rootless = map string_bytes paths;
+}
+
 -- The bytes of the texts of these profiles.
 abbrev pub profile_bytes : List FolderProfile → ℕ
 profile_bytes ps = bytes_in (map path_and_text ps)
@@ -84,3 +115,16 @@ HoldOperand reads lists operand ps = IsNamed reads lists operand (map path_and_t
 abbrev pub HoldNamed : Reads → Lists → List (Bor (List ℕ)) → List FolderProfile → Type 0
 HoldNamed reads lists operands ps =
     AreNamed reads lists (texts_in operands) (map path_and_text ps)
+
+-- What is held is what a folder, an operand, and operands name, with the files that are left out.
+abbrev pub HoldNotedFolder : Reads → Lists → List ℕ → TakenProfiles → Type 0
+HoldNotedFolder reads lists folder v =
+    IsNotedFolder reads lists folder (noted_of v.profiles.items v.rootless.items)
+
+abbrev pub HoldNotedOperand : Reads → Lists → List ℕ → TakenProfiles → Type 0
+HoldNotedOperand reads lists operand v =
+    IsNoted reads lists operand (noted_of v.profiles.items v.rootless.items)
+
+abbrev pub HoldNoted : Reads → Lists → List (Bor (List ℕ)) → TakenProfiles → Type 0
+HoldNoted reads lists operands v =
+    AreNoted reads lists (texts_in operands) (noted_of v.profiles.items v.rootless.items)

@@ -1,12 +1,12 @@
 //! The profiles of a folder.
-ghost use Rattle.std.specs.Prelude.{◌≡◌, ◌≤◌, ◌+◌, ℕ, Ok, map, string_bytes, IfErr, IfOk, OnOk};
-ghost use Rattle.hub_folder.specs.Told.{HoldProfiles};
+ghost use Rattle.std.specs.Prelude.{◌≡◌, ◌≤◌, ◌+◌, ◌++◌, ℕ, Ok, map, string_bytes, IfErr, IfOk, OnOk};
+ghost use Rattle.hub_folder.specs.Told.{HoldNotedFolder, HoldProfiles};
 ghost use Rattle.hub_folder.specs.Folders.{HasProfileFiles};
 ghost use Rattle.hub_folder.specs.Folders as folders;
 ghost use Rattle.hub_folder.specs.Folders.{IsUntakenFolder};
-ghost use Rattle.hub_folder.specs.Taken.{Agrees, IsUntaken, IsUntakenOf};
+ghost use Rattle.hub_folder.specs.Taken.{Agrees, IsUntakenOf, IsUntold};
 ghost use Rattle.hub_folder.specs.Told as told_as;
-ghost use Rattle.hub_folder.specs.Told.{AreTold, all_bytes_told, file_told, lines_told, path_and_text, profile_bytes};
+ghost use Rattle.hub_folder.specs.Told.{AreTold, all_bytes_told, file_told, lines_told, path_and_text, paths_left_out, profile_bytes};
 ghost use Rattle.hub_folder.specs.declared.shelf.TheConstants.{INCLUDED_BYTES};
 ghost use Rattle.hub_include.specs.Files.{known_of};
 ghost use Rattle.hub_include.specs.Includes as includes;
@@ -15,7 +15,7 @@ use crate::fault::Untaken;
 use crate::origins::Origins;
 use crate::reader::{FileReader, Unread};
 use crate::shelf::{INCLUDED_BYTES, Place};
-use crate::told::{Told, has_root, includes, is_profile, is_rootless};
+use crate::told::{Told, is_profile, is_rootless, leaves_out};
 use hub_include::{Folder, lines_of, text_of};
 use std::alloc::{AllocError, Global};
 
@@ -28,8 +28,7 @@ pub struct FolderProfile {
     pub text: Vec<u8>,
     /// Where the lines of the text come from.
     pub origins: Origins,
-    /// The paths of the files that have a root and are no profiles of their folder since this one includes them. No contract says of
-    /// it what it has.
+    /// The paths of the files that have a root and are no profiles of their folder since this one includes them.
     pub left_out: Vec<String>,
 }
 
@@ -39,7 +38,7 @@ pub struct TakenProfiles {
     /// The profiles.
     pub profiles: Vec<FolderProfile>,
     /// The paths of the files of folders that have the ending of a profile, and are none since they set no root, though they say
-    /// something else and no other one includes them. No contract says of it what it has.
+    /// something else and no other one includes them.
     pub rootless: Vec<String>,
 }
 
@@ -56,6 +55,8 @@ pub(crate) fn profiles_in<F: FileReader>(
     requires { taken ≤ INCLUDED_BYTES }
     ensures ok { IfOk result (λ v. HoldProfiles (F.reads reader.now) (F.lists reader.now)
         folder.now v.profiles.items) }
+    ensures noted { IfOk result
+        (HoldNotedFolder (F.reads reader.now) (F.lists reader.now) folder.now) }
     ensures fits { IfOk result (λ v. taken + profile_bytes v.profiles.items ≤ INCLUDED_BYTES) }
     ensures err { IfErr result
         (IsUntakenFolder (F.reads reader.now) (F.lists reader.now) taken folder.now) }
@@ -155,11 +156,9 @@ impl<'a, F: FileReader> Place<'a, F> {
 
     /// The lines of a file.
     pub(crate) fn tell<'n>(&self, shelf: &'n Folder, name: &'n str) -> Result<Told<'n>, Untaken>
-        requires { Agrees (F.reads self.now.reader.now) self.now.path.now (known_of shelf.now) }
         ensures ok { IfOk result (λ t. file_told t ≡ name.now) }
         ensures lines { IfOk result (λ t. includes.lines_of (known_of shelf.now) name.now ≡ Ok (lines_told t)) }
-        ensures err { IfErr result
-            (IsUntaken (F.reads self.now.reader.now) self.now.path.now name.now) }
+        ensures err { IfErr result (IsUntold self.now.path.now (known_of shelf.now) name.now) }
     {
         match lines_of(self.alloc, shelf, name) {
             Ok(lines) => Ok(Told { name, lines }),
@@ -174,8 +173,10 @@ fn profiles_of(
     path: &str,
     told: &[Told<'_>],
 ) -> Result<Vec<FolderProfile>, AllocError>
-    ensures { IfOk result (λ v. map path_and_text v.items
+    ensures are { IfOk result (λ v. map path_and_text v.items
         ≡ told_as.profiles_told path.now told.now told.now) }
+    ensures left_out { IfOk result (λ v. map paths_left_out v.items
+        ≡ told_as.left_outs_told path.now told.now told.now) }
 {
     let mut profiles = Vec::new(alloc);
     for one in told {
@@ -188,12 +189,14 @@ fn profiles_of(
 }
 
 /// The paths of those of these files that are none since they set no root.
-fn rootless_of(alloc: Global, path: &str, told: &[Told<'_>]) -> Result<Vec<String>, AllocError> {
+fn rootless_of(alloc: Global, path: &str, told: &[Told<'_>]) -> Result<Vec<String>, AllocError>
+    ensures { IfOk result (λ v. map string_bytes v.items
+        ≡ told_as.rootless_told path.now told.now told.now) }
+{
     let mut rootless = Vec::new(alloc);
     for one in told {
         if is_rootless(one, told) {
-            let name = one.name;
-            rootless.push(format!(in alloc; "{path}{name}")?)?;
+            rootless.push(path_of(alloc, path, one.name)?)?;
         }
     }
     Ok(rootless)
@@ -206,10 +209,10 @@ pub(crate) fn profile_of(
     told: &Told<'_>,
     left_out: Vec<String>,
 ) -> Result<FolderProfile, AllocError>
-    ensures { IfOk result (λ p. path_and_text p ≡ told_as.profile_told path.now told.now) }
+    ensures is { IfOk result (λ p. path_and_text p ≡ told_as.profile_told path.now told.now) }
+    ensures left_out { IfOk result (λ p. p.left_out.items ≡ left_out.items) }
 {
-    let mut file = String::from_str(alloc, path)?;
-    file.push_str(told.name)?;
+    let file = path_of(alloc, path, told.name)?;
     let text = text_of(alloc, told.lines.as_slice())?;
     let origins = Origins::of(alloc, path, told.lines.as_slice())?;
     Ok(FolderProfile {
@@ -226,13 +229,24 @@ fn left_out_by(
     path: &str,
     one: &Told<'_>,
     told: &[Told<'_>],
-) -> Result<Vec<String>, AllocError> {
+) -> Result<Vec<String>, AllocError>
+    ensures { IfOk result (λ v. map string_bytes v.items
+        ≡ told_as.left_out_told path.now told.now one.now) }
+{
     let mut left_out = Vec::new(alloc);
     for other in told {
-        if has_root(other.lines.as_slice()) && includes(one, other.name) {
-            let name = other.name;
-            left_out.push(format!(in alloc; "{path}{name}")?)?;
+        if leaves_out(one, other) {
+            left_out.push(path_of(alloc, path, other.name)?)?;
         }
     }
     Ok(left_out)
+}
+
+/// The path of the file of this name.
+fn path_of(alloc: Global, path: &str, name: &str) -> Result<String, AllocError>
+    ensures { IfOk result (λ p. string_bytes p ≡ path.now ++ name.now) }
+{
+    let mut file = String::from_str(alloc, path)?;
+    file.push_str(name)?;
+    Ok(file)
 }

@@ -13,7 +13,7 @@
 //!
 //! Included files are looked for in the folder of the profile's file, as Unison looks for them in `~/.unison`. The contracts use
 //! the words of `specs/Reading` (what reads give), `specs/Taken` (the text of a profile by its file), `specs/Folders` (which files
-//! of a folder are profiles) and `specs/Operands`.
+//! of a folder are profiles), `specs/Operands` and `specs/Noted` (which files are left out).
 //!
 //! Only functions that return a `Result` allocate.
 //!
@@ -22,12 +22,16 @@
 //! - The text of a profile is that of the lines that `hub_include` defines over the bytes that the reader tells.
 //! - The profiles of a folder are that for its files, but for exactly those without a root line and those that another one includes.
 //!   `profiles_named` gives all profiles of all operands, in their order.
+//! - Each profile of a folder tells exactly the files that it leaves out: those that set a root and that it includes. The rootless
+//!   files are exactly those that set no root and say something else, and that no other one includes.
 //! - A fault is true of what the reader tells: this file can't be read, this folder can't be listed, or this line can't be followed.
+//!   A file is told as gone only if it was listed and is missing. A line that can't be followed, and a text that is too long, is that
+//!   of the first profile of the folder with such a fault. For `TooManyFiles` more than [`MOST_FILES`] different files were looked for.
 //!
 //! # What is not
 //!
-//! What the system's files have, and where a remark says that a line comes from. That so many files are looked for that
-//! [`Untaken`] says `TooManyFiles` is this project's limit; how many they are no contract says.
+//! What the system's files have, and where a remark says that a line comes from. No contract says which files are
+//! looked for, beside how many they are.
 #![tactic(auto)]
 
 mod fault;

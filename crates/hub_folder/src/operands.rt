@@ -2,7 +2,7 @@
 ghost use Rattle.std.specs.Prelude.{◌≡◌, ◌≤◌, ◌+◌, ◌++◌, IfErr, IfOk, OnOk};
 ghost use Rattle.hub_folder.specs.Operands as operands_as;
 ghost use Rattle.hub_folder.specs.Operands.{IsUnnamed};
-ghost use Rattle.hub_folder.specs.Told.{HoldNamed, HoldOperand, profile_bytes, texts_in};
+ghost use Rattle.hub_folder.specs.Told.{HoldNamed, HoldNoted, HoldNotedOperand, HoldOperand, profile_bytes, texts_in};
 ghost use Rattle.hub_folder.specs.declared.shelf.TheConstants.{INCLUDED_BYTES};
 
 use crate::fault::Untaken;
@@ -14,6 +14,9 @@ use std::alloc::{AllocError, Global};
 
 /// The profiles that these operands name, in their order: that of a file whose path ends with `.prf`, or those of a folder.
 ///
+/// Each has the paths of the files of its folder that it leaves out: those with a root that it includes. The rootless files are those
+/// of folders that set no root and say something else, if no other one includes them. Beside the profile of a file none is left out.
+///
 /// Their texts have at most `INCLUDED_BYTES` bytes together. The fault is that of the first operand with one.
 pub fn profiles_named<F: FileReader>(
     alloc: Global,
@@ -22,6 +25,8 @@ pub fn profiles_named<F: FileReader>(
 ) -> Result<TakenProfiles, Untaken>
     ensures ok { IfOk result (λ v. HoldNamed (F.reads reader.now) (F.lists reader.now)
         operands.now v.profiles.items) }
+    ensures noted { IfOk result
+        (HoldNoted (F.reads reader.now) (F.lists reader.now) operands.now) }
     ensures fits { IfOk result (λ v. profile_bytes v.profiles.items ≤ INCLUDED_BYTES) }
     ensures err { IfErr result (IsUnnamed (F.reads reader.now) (F.lists reader.now)
         (texts_in operands.now)) }
@@ -58,7 +63,9 @@ fn bytes_with(taken: usize, own: &[FolderProfile]) -> usize
 }
 
 /// Adds these paths.
-fn push_paths(paths: &mut Vec<String>, others: Vec<String>) -> Result<(), AllocError> {
+fn push_paths(paths: &mut Vec<String>, others: Vec<String>) -> Result<(), AllocError>
+    ensures { OnOk result (paths.new.items ≡ paths.old.items ++ others.items) }
+{
     for path in others {
         paths.push(path)?;
     }
@@ -85,6 +92,8 @@ fn profiles_of<F: FileReader>(
     requires { taken ≤ INCLUDED_BYTES }
     ensures ok { IfOk result (λ v. HoldOperand (F.reads reader.now) (F.lists reader.now)
         operand.now v.profiles.items) }
+    ensures noted { IfOk result
+        (HoldNotedOperand (F.reads reader.now) (F.lists reader.now) operand.now) }
     ensures fits { IfOk result (λ v. taken + profile_bytes v.profiles.items ≤ INCLUDED_BYTES) }
     ensures err { IfErr result
         (operands_as.IsFault (F.reads reader.now) (F.lists reader.now) taken operand.now) }

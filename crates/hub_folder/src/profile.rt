@@ -1,6 +1,6 @@
 //! The profile in a file.
 ghost use Rattle.std.specs.Prelude.{◌≡◌, ◌≤◌, ◌+◌, ◌++◌, [], length, string_bytes, IfErr, IfOk};
-ghost use Rattle.hub_folder.specs.Taken.{Agrees, IsCut, IsProfile, IsText, IsUntakenAfter, IsUntakenFile, ShowsUntaken};
+ghost use Rattle.hub_folder.specs.Taken.{Agrees, IsCut, IsProfile, IsText, IsThere, IsUntakenAlone, IsUntakenFile, ShowsUntold};
 ghost use Rattle.hub_folder.specs.declared.shelf.TheConstants.{INCLUDED_BYTES};
 ghost use Rattle.hub_include.specs.Files.{known_of};
 
@@ -45,6 +45,7 @@ pub(crate) fn profile_in<F: FileReader>(
     requires { taken ≤ INCLUDED_BYTES }
     ensures path { IfOk result (λ p. string_bytes p.path ≡ path.now) }
     ensures text { IfOk result (λ p. IsProfile (F.reads reader.now) path.now p.text.items) }
+    ensures left_out { IfOk result (λ p. p.left_out.items ≡ []) }
     ensures fits { IfOk result (λ p. taken + length p.text.items ≤ INCLUDED_BYTES) }
     ensures err { IfErr result (IsUntakenFile (F.reads reader.now) taken path.now) }
 {
@@ -65,13 +66,15 @@ impl<'a, F: FileReader> Place<'a, F> {
     /// The profile of this name.
     fn profile(&self, folder: &Folder, name: &str) -> Result<FolderProfile, Untaken>
         requires known { Agrees (F.reads self.now.reader.now) self.now.path.now (known_of folder.now) }
+        requires there { IsThere (known_of folder.now) name.now }
         requires taken { self.now.taken ≤ INCLUDED_BYTES }
         ensures path { IfOk result (λ p. string_bytes p.path ≡ self.now.path.now ++ name.now) }
         ensures text { IfOk result
             (λ p. IsText (F.reads self.now.reader.now) self.now.path.now name.now p.text.items) }
+        ensures left_out { IfOk result (λ p. p.left_out.items ≡ []) }
         ensures fits { IfOk result (λ p. self.now.taken + length p.text.items ≤ INCLUDED_BYTES) }
-        ensures err { IfErr result (IsUntakenAfter (F.reads self.now.reader.now) self.now.path.now
-            self.now.taken [] name.now) }
+        ensures err { IfErr result (IsUntakenAlone (F.reads self.now.reader.now) self.now.path.now
+            self.now.taken name.now) }
     {
         let told = self.tell(folder, name)?;
         self.bytes_with(self.taken, &told)?;
@@ -80,8 +83,7 @@ impl<'a, F: FileReader> Place<'a, F> {
 
     /// Why the lines of a file can't be told.
     pub(crate) fn untaken(&self, name: &str, fault: LinesFault) -> Untaken
-        ensures { ShowsUntaken (F.reads self.now.reader.now) self.now.path.now name.now fault
-            result }
+        ensures { ShowsUntold self.now.path.now name.now fault result }
     {
         match fault {
             LinesFault::Line(fault) => match self.path_of("") {
@@ -92,8 +94,8 @@ impl<'a, F: FileReader> Place<'a, F> {
                 Ok(path) => Untaken::Gone(path),
                 Err(_) => Untaken::OutOfMemory,
             },
-            LinesFault::Unread(_) => self.too_many(name),
-            LinesFault::OutOfMemory => Untaken::OutOfMemory,
+            // Nothing is unread: each file that a line asks for was looked for.
+            LinesFault::Unread(_) | LinesFault::OutOfMemory => Untaken::OutOfMemory,
         }
     }
 }

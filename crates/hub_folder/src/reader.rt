@@ -1,8 +1,9 @@
 //! Who reads files.
 ghost use Rattle.std.specs.Prelude.{ℕ, List, Option, map, string_bytes, IfErr, IfOk};
-ghost use Rattle.hub_folder.specs.Reading.{FileRead, HasBytes, HasNames, IsUnread, IsUnlisted, Listing};
+ghost use Rattle.hub_folder.specs.Reading.{FileRead, Folders, HasBytes, HasFolder, HasNames, IsUnread, IsUnlisted, Listing};
 
-use std::alloc::Global;
+use hub_path::Root;
+use std::alloc::{AllocError, Global};
 use std::io;
 
 /// What is wrong with a file that can't be read, or with a folder that can't be listed.
@@ -25,13 +26,16 @@ pub enum Unread {
     OutOfMemory,
 }
 
-/// Reads files by their paths, and lists folders.
+/// Reads files by their paths, lists folders, and says where files are.
 pub trait FileReader {
     /// What a read of the file of this path gives, where a contract can tell it.
     ghost reads: { Self → List ℕ → Option FileRead };
 
     /// What the folder of this path lists, where a contract can tell it.
     ghost lists: { Self → List ℕ → Option Listing };
+
+    /// The folder of the file of this path, where a contract can tell it.
+    ghost folders: { Self → Folders };
 
     /// Reads all bytes of a file.
     fn read_file(&self, alloc: Global, file: &str) -> Result<Vec<u8>, Unread>
@@ -43,4 +47,8 @@ pub trait FileReader {
         ensures names { IfOk result
             (λ v. HasNames (lists self.now) folder.now (map string_bytes v.items)) }
         ensures unlisted { IfErr result (IsUnlisted (lists self.now) folder.now) };
+
+    /// The folder that a file is in, from the top of the file system, if that can be told.
+    fn folder_of(&self, alloc: Global, file: &str) -> Result<Option<Root>, AllocError>
+        ensures { IfOk result (HasFolder (folders self.now) file.now) };
 }

@@ -1,7 +1,7 @@
 //! What is known of a folder's files, by reads.
-ghost use Rattle.std.specs.Prelude.{◌≡◌, ◌++◌, ℕ, List, string_bytes, IfErr, IfOk, IfSome, OnOk};
-ghost use Rattle.hub_folder.specs.Taken.{Agrees, IsUntaken, read_as};
-ghost use Rattle.hub_include.specs.Files.{known_of};
+ghost use Rattle.std.specs.Prelude.{◌≡◌, ◌++◌, ℕ, List, Some, string_bytes, IfErr, IfOk, IfSome, OnOk};
+ghost use Rattle.hub_folder.specs.Taken.{Agrees, IsThere, IsUntaken, KeepsKnown, ShowsTooMany, read_as};
+ghost use Rattle.hub_include.specs.Files.{ChangesOnlyAt, known_of};
 
 use crate::fault::Untaken;
 use crate::reader::{FileReader, ReadFault, Unread};
@@ -33,6 +33,7 @@ impl<'a, F: FileReader> Place<'a, F> {
     pub(crate) fn fill(&self, folder: &mut Folder, name: &str) -> Result<(), Untaken>
         requires { Agrees (F.reads self.now.reader.now) self.now.path.now (known_of folder.old) }
         ensures ok { OnOk result (Agrees (F.reads self.now.reader.now) self.now.path.now (known_of folder.new)) }
+        ensures keeps { OnOk result (KeepsKnown (known_of folder.old) (known_of folder.new)) }
         ensures err { IfErr result
             (IsUntaken (F.reads self.now.reader.now) self.now.path.now name.now) }
     {
@@ -77,7 +78,12 @@ impl<'a, F: FileReader> Place<'a, F> {
         requires known { Agrees (F.reads self.now.reader.now) self.now.path.now (known_of folder.old) }
         requires read { IfSome (F.reads self.now.reader.now
             (self.now.path.now ++ string_bytes wanted.now.name)) (λ r. r ≡ read_as bytes) }
-        ensures { OnOk result (Agrees (F.reads self.now.reader.now) self.now.path.now (known_of folder.new)) }
+        ensures agrees { OnOk result
+            (Agrees (F.reads self.now.reader.now) self.now.path.now (known_of folder.new)) }
+        ensures noted { OnOk result
+            (known_of folder.new (string_bytes wanted.now.name) ≡ Some bytes) }
+        ensures others { OnOk result
+            (ChangesOnlyAt folder.old folder.new (string_bytes wanted.now.name)) }
     {
         let name = String::from_str(self.alloc, wanted.name.as_str())?;
         folder.put(name, bytes)
@@ -97,6 +103,7 @@ impl<'a, F: FileReader> Place<'a, F> {
     pub(crate) fn learn_own(&self, folder: &mut Folder, name: &str) -> Result<(), Untaken>
         requires { Agrees (F.reads self.now.reader.now) self.now.path.now (known_of folder.old) }
         ensures ok { OnOk result (Agrees (F.reads self.now.reader.now) self.now.path.now (known_of folder.new)) }
+        ensures there { OnOk result (IsThere (known_of folder.new) name.now) }
         ensures err { IfErr result
             (IsUntaken (F.reads self.now.reader.now) self.now.path.now name.now) }
     {
@@ -113,8 +120,8 @@ impl<'a, F: FileReader> Place<'a, F> {
     }
 
     /// Too many files were looked for.
-    pub(crate) fn too_many(&self, name: &str) -> Untaken
-        ensures { IsUntaken (F.reads self.now.reader.now) self.now.path.now name.now result }
+    fn too_many(&self, name: &str) -> Untaken
+        ensures { ShowsTooMany (F.reads self.now.reader.now) self.now.path.now name.now result }
     {
         match self.path_of(name) {
             Ok(path) => Untaken::TooManyFiles(path),

@@ -48,6 +48,13 @@ pub(crate) fn is_rootless(one: &Told<'_>, told: &[Told<'_>]) -> bool
     is_without_root(one.lines.as_slice()) && !is_included(one.name, told)
 }
 
+/// Returns whether a file leaves out another one: that sets a root, and this one includes it.
+pub(crate) fn leaves_out(one: &Told<'_>, other: &Told<'_>) -> bool
+    ensures { result ≡ told_as.leaves_out_told one.now other.now }
+{
+    has_root(other.lines.as_slice()) && includes(one, other.name)
+}
+
 /// Returns whether lines set no root, and one of them says something.
 fn is_without_root(lines: &[FileLine<&str, &[u8]>]) -> bool
     ensures { result ≡ (not (list_any (λ l. folders.sets_root l.text.now) lines.now)
@@ -57,7 +64,7 @@ fn is_without_root(lines: &[FileLine<&str, &[u8]>]) -> bool
 }
 
 /// Returns whether lines set a root.
-pub(crate) fn has_root(lines: &[FileLine<&str, &[u8]>]) -> bool
+fn has_root(lines: &[FileLine<&str, &[u8]>]) -> bool
     ensures { result ≡ list_any (λ l. folders.sets_root l.text.now) lines.now }
 {
     lines.iter().any(|line| sets_root(line.text))
@@ -78,7 +85,7 @@ fn is_included(name: &str, told: &[Told<'_>]) -> bool
 }
 
 /// Returns whether a file is another one than that, and includes it.
-pub(crate) fn includes(other: &Told<'_>, name: &str) -> bool
+fn includes(other: &Told<'_>, name: &str) -> bool
     ensures { result ≡ includes_told name.now other.now }
 {
     other.name != name && has_file(other.lines.as_slice(), name)

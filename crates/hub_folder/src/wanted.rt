@@ -1,6 +1,8 @@
 //! The files that lines ask for, in their order.
 //!
-//! Nothing is stated of these names: they say which files are read. What a profile takes in is stated by `hub_include::lines_of`.
+//! Of these names it is stated only that nobody has looked for them. What a profile takes in is stated by `hub_include::lines_of`.
+ghost use Rattle.std.specs.Prelude.{IfOk, IfSome};
+ghost use Rattle.hub_folder.specs.Wanted.{IsUnknown};
 
 use hub_include::{Asked, Folder, Found, asked_by, name_in};
 use hub_text::{Lines, without_last_cr};
@@ -76,7 +78,9 @@ impl Waiting {
     }
 
     /// Takes the next file for which nobody has looked yet. Those before it are dropped.
-    pub(crate) fn next_unread(&mut self, folder: &Folder) -> Result<Option<Wanted>, AllocError> {
+    pub(crate) fn next_unread(&mut self, folder: &Folder) -> Result<Option<Wanted>, AllocError>
+        ensures { IfOk result (λ w. IfSome w (IsUnknown folder.now)) }
+    {
         while let Some(wanted) = self.files.pop() {
             if let Some(unread) = unread_of(self.alloc, folder, wanted)? {
                 return Ok(Some(unread));
@@ -87,7 +91,9 @@ impl Waiting {
 }
 
 /// The file that has to be looked for, if there is one: this one, or that of the name with `.prf`.
-fn unread_of(alloc: Global, folder: &Folder, wanted: Wanted) -> Result<Option<Wanted>, AllocError> {
+fn unread_of(alloc: Global, folder: &Folder, wanted: Wanted) -> Result<Option<Wanted>, AllocError>
+    ensures { IfOk result (λ w. IfSome w (IsUnknown folder.now)) }
+{
     match folder.find(wanted.name.as_str()) {
         Found::Unread => Ok(Some(wanted)),
         Found::Absent if wanted.has_ending => unread_longer(alloc, folder, wanted.name.as_str()),
@@ -96,7 +102,9 @@ fn unread_of(alloc: Global, folder: &Folder, wanted: Wanted) -> Result<Option<Wa
 }
 
 /// The name with `.prf`, if nobody has looked for it.
-fn unread_longer(alloc: Global, folder: &Folder, name: &str) -> Result<Option<Wanted>, AllocError> {
+fn unread_longer(alloc: Global, folder: &Folder, name: &str) -> Result<Option<Wanted>, AllocError>
+    ensures { IfOk result (λ w. IfSome w (IsUnknown folder.now)) }
+{
     let name = with_ending(alloc, name)?;
     match folder.find(name.as_str()) {
         Found::Unread => Ok(Some(Wanted {

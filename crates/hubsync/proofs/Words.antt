@@ -69,4 +69,4 @@ out_of_memory words said = record { by_input = λ _. plainly (inr said); by_file
 pub nothing_asked : {disk : Disk} (words : List (List ℕ)) {remaining old new : Option (List ℕ)} {of_input : InputReads} {failed : Bool} {status : ℕ}
     → asked_of words ≡ None → ServesInFull (asked_of words) remaining old new of_input failed status
     → AnswersWords disk words remaining old new of_input failed status
-nothing_asked words none said = record { by_input = λ _. plainly (inl said); by_files = λ _. plainly (named_nothing none (said.nothing none)) }
+nothing_asked words none said = record { by_input = λ _. plainly (inl said); by_files = λ _. plainly (named_nothing none (said.first.nothing none)) }

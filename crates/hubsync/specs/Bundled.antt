@@ -1,6 +1,9 @@
 -- What is answered over files.
-use Rattle.std.specs.Prelude.{◌≡◌, ◌⊎◌, ◌++◌, ℕ, Bool, false, true, List, [], ◌∷◌, Option, Some, None, Ok, Err, is_some, codes, map, string_bytes}
+use Rattle.std.specs.Prelude.{◌≡◌, ◌⊎◌, ◌++◌, ℕ, Bool, false, true, List, [], ◌∷◌, Option, Some, None, Ok, Err, IfSome, is_some, codes, map, string_bytes}
 use Rattle.std.specs.List.{All, Contains, slice_get}
+use Rattle.hub_archives.specs.Found.{AreKeptOut, IsHeld}
+use Rattle.hub_archives.specs.declared.found.HeldArchives.{HeldArchives}
+use Rattle.hub_path.specs.Path.{Path}
 use Rattle.hub_cli.specs.Words.{Names, Request}
 use Rattle.hub_bundle.specs.Files.{bundle_of, first_faulty, part_fault}
 use Rattle.hub_bundle.specs.declared.part.Kind.{Kind}
@@ -11,7 +14,7 @@ use Rattle.hub_bundle.specs.declared.part.PartFault.TheVariants.{BadName, HasHea
 use Rattle.hub_serve.specs.Reads.{Reads as InputReads}
 use Rattle.hub_serve.specs.Serves.{AnswersNothing, ServesInFull, WritesText}
 use Rattle.hub_folder.specs.Operands.{AreNamed, File, IsUnnamed}
-use Rattle.hub_folder.specs.Reading.{HasBytes, HasFault, Lists, Reads, fault_word}
+use Rattle.hub_folder.specs.Reading.{Folders, HasBytes, HasFault, HasFolder, Lists, Reads, fault_word}
 use Rattle.hub_folder.specs.declared.fault.Untaken.{Untaken}
 use Rattle.hub_folder.specs.declared.fault.Untaken.TheVariants as untaken
 use Rattle.hub_folder.specs.declared.reader.ReadFault.{ReadFault}
@@ -85,13 +88,13 @@ WritesBadHosts reads file old new failed status =
     (bytes : List ℕ) × (fault : HostsFault) × HasBytes reads file bytes
     × (rows_of bytes ≡ Err fault) × WritesFault file (hosts_word fault) old new failed status
 
--- The answer is given over the bundle that the files make, from its first read to its last.
-pub record ServesBundle (asked : Option Request) (parts : List Part) (old new : Option (List ℕ))
+-- The answer is given over a bundle, from its first read to its last.
+pub record ServesBundle (asked : Option Request) (bundle : List ℕ) (old new : Option (List ℕ))
     (failed : Bool) (status : ℕ) : Type 0 where
   pub reads : InputReads
   pub begins : reads.before ≡ 0
   pub unmet : reads.was_at_end ≡ false
-  pub serves : ServesInFull asked (Some (bundle_of parts)) old new reads failed status
+  pub serves : ServesInFull asked (Some bundle) old new reads failed status
 
 -- The answer is given over an input, or it was written that memory is out.
 abbrev pub ServesInput : Option Request → Option (List ℕ) → Option (List ℕ) → Option (List ℕ)
@@ -125,13 +128,23 @@ reason_in (Some p) = reason_for p
 abbrev pub reason_at : List Part → ℕ → List ℕ
 reason_at parts n = reason_in (slice_get parts n)
 
--- If each file can be a section, the answer is given over the bundle that they make. Else the fault
--- of the first that can't be one was written. In both cases it may be that memory is out instead.
-pub record ServesParts (asked : Option Request) (parts : List Part) (old new : Option (List ℕ))
-    (failed : Bool) (status : ℕ) : Type 0 where
+-- A profile of the bundle that the files make doesn't keep out Unison's archives in one of these
+-- folders. That was written, or that memory is out.
+abbrev pub WritesHeld : List Path → List Part → Option (List ℕ) → Option (List ℕ) → Bool → ℕ
+    → Type 0
+WritesHeld folders parts old new failed status =
+    (held : HeldArchives) × IsHeld folders (bundle_of parts) held
+    × WritesFault (file_at parts held.section) (codes "ArchivesInRoot") old new failed status
+
+-- If each file can be a section, the answer is given over the bundle that they make, whose profiles
+-- keep out Unison's archives in these folders; or one doesn't. Else the fault of the first that can't
+-- be a section was written. In each case it may be that memory is out instead.
+pub record ServesParts (asked : Option Request) (folders : List Path) (parts : List Part)
+    (old new : Option (List ℕ)) (failed : Bool) (status : ℕ) : Type 0 where
   pub bundled : first_faulty parts ≡ None
-      → ServesBundle asked parts old new failed status
-      ⊎ WritesText old new memory_line 2 failed status
+      → (AreKeptOut folders (bundle_of parts) × ServesBundle asked (bundle_of parts) old new failed status)
+      ⊎ (WritesHeld folders parts old new failed status
+      ⊎ WritesText old new memory_line 2 failed status)
   pub refused : (n : ℕ) → first_faulty parts ≡ Some n
       → WritesFault (file_at parts n) (reason_at parts n) old new failed status
 
@@ -159,14 +172,16 @@ profile_labels files = map (λ file. (Profile, file)) files
 abbrev pub labels : Names → List Label
 labels names = profile_labels names.profiles ++ option_labels names
 
--- What reads of files give, and what folders list, where it is known.
+-- What reads of files give, what folders list, and which folder a file is in, where it is known.
 pub record Disk : Type 0 where
   pub reads : Reads
   pub lists : Lists
+  pub folders : Folders
 
 -- What is known of a reader's files.
-abbrev pub disk_of : {F : Type 0} → (F → Reads) → (F → Lists) → F → Disk
-disk_of reads lists reader = record { reads = reads reader; lists = lists reader }
+abbrev pub disk_of : {F : Type 0} → (F → Reads) → (F → Lists) → (F → Folders) → F → Disk
+disk_of reads lists folders reader =
+    record { reads = reads reader; lists = lists reader; folders = folders reader }
 
 -- The files that words name, and whether the profiles are read for Unison.
 pub record Sources : Type 0 where
@@ -227,6 +242,18 @@ pub record AreSections (disk : Disk) (sources : Sources) (ls : List Label) (file
   pub plain : sources.is_for_unison ≡ false → AreRead disk.reads sources.names ls files
   pub unison : sources.is_for_unison ≡ true → AreTaken disk sources.names ls files
 
+-- The folder of a profile's file is among these, if it can be told.
+abbrev pub HasFolderAmong : Disk → List Path → Label → Type 0
+HasFolderAmong disk folders label =
+    label.0 ≡ Profile → (told : Option Path) × HasFolder disk.folders label.1 told
+    × IfSome told (Contains folders)
+
+-- For Unison these are the folders of its profiles' files. For the plain reading there are none.
+pub record AreFolders (disk : Disk) (sources : Sources) (ls : List Label) (folders : List Path) :
+    Type 0 where
+  pub plain : sources.is_for_unison ≡ false → folders ≡ []
+  pub unison : sources.is_for_unison ≡ true → All (HasFolderAmong disk folders) ls
+
 -- What is wrong with one of the files was written, or that memory is out.
 abbrev pub WritesFileFault : Disk → Names → Option (List ℕ) → Option (List ℕ) → Bool → ℕ → Type 0
 WritesFileFault disk names old new failed status =
@@ -238,13 +265,16 @@ WritesFileFault disk names old new failed status =
     × (WritesUnread disk.reads file old new failed status
     ⊎ WritesBadHosts disk.reads file old new failed status)))
 
--- The answer is given over these sections and over no other ones. Or it was written what is wrong
+-- The answer is given over these sections and over no other ones, and with `--unison` none of their
+-- profiles reaches the folder of one, where Unison has its archives. Or it was written what is wrong
 -- with one of the files, or that memory is out.
 abbrev pub ServesFiles : Disk → Option Request → Sources → Option (List ℕ) → Option (List ℕ)
     → Bool → ℕ → Type 0
 ServesFiles disk asked sources old new failed status =
-    ((parts : List Part) × AreSections disk sources (map label_of parts) (map bytes_of parts)
-    × ServesParts asked parts old new failed status)
+    ((parts : List Part) × (folders : List Path)
+    × AreSections disk sources (map label_of parts) (map bytes_of parts)
+    × AreFolders disk sources (map label_of parts) folders
+    × ServesParts asked folders parts old new failed status)
     ⊎ (WritesFileFault disk sources.names old new failed status
     ⊎ WritesText old new memory_line 2 failed status)
 

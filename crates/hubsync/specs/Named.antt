@@ -1,20 +1,22 @@
 -- The files that are read.
-use Rattle.std.specs.Prelude.{◌≡◌, ◌++◌, map, List, ℕ, Err, Option, Some, option_map, string_bytes}
+use Rattle.std.specs.Prelude.{◌≡◌, ◌++◌, map, List, ℕ, Bool, false, true, Err, Option, Some, IfSome, option_map, string_bytes}
 use Rattle.std.specs.List.{Contains}
+use Rattle.hub_path.specs.Path.{Path}
 use Rattle.hub_cli.specs.Words.{Names, names_of}
 use Rattle.hub_cli.specs.declared.files.Options.{Options}
+use Rattle.hub_bundle.specs.declared.part.Kind.{Kind}
 use Rattle.hub_bundle.specs.declared.part.Kind.TheVariants.{Profile}
 use Rattle.hub_folder.specs.Operands.{IsUnnamed}
 use Rattle.hub_folder.specs.Told.{path_and_text}
 use Rattle.hub_folder.specs.declared.folder.FolderProfile.{FolderProfile}
-use Rattle.hub_folder.specs.Reading.{HasBytes, HasFault, Lists, Reads}
+use Rattle.hub_folder.specs.Reading.{Folders, HasBytes, HasFault, HasFolder, Lists, Reads}
 use Rattle.hub_hosts.specs.Table.{Row, rows_of}
 use denote.Ref.{Bor}
 use Rattle.hubsync.specs.declared.files.Held.{Held}
 use Rattle.hubsync.specs.declared.files.Named.{Named}
 use Rattle.hubsync.specs.declared.files.Unserved.{Unserved}
 use Rattle.hubsync.specs.declared.files.Unserved.TheVariants.{BadHosts, File, Hosts, OutOfMemory, Untaken}
-use Rattle.hubsync.specs.Bundled.{AreRead, AreSections, AreTaken, Disk, Label, Sources, disk_of, for_hosts, for_section, labels}
+use Rattle.hubsync.specs.Bundled.{AreFolders, AreRead, AreSections, AreTaken, Disk, Label, Sources, disk_of, for_hosts, for_section, labels}
 
 abbrev pub label_named : Named → Label
 label_named n = (n.kind, n.file.now)
@@ -34,14 +36,36 @@ bytes_for table h = for_section table h.kind (bytes_held h)
 abbrev pub HoldRead : Reads → Names → List Held → Type 0
 HoldRead reads names held = AreRead reads names (map label_held held) (map bytes_held held)
 
-abbrev pub HoldTaken : {F : Type 0} → (F → Reads) → (F → Lists) → F → Names → List Held → Type 0
-HoldTaken reads lists reader names held =
-    AreTaken (disk_of reads lists reader) names (map label_held held) (map bytes_held held)
+abbrev pub HoldTaken : {F : Type 0} → (F → Reads) → (F → Lists) → (F → Folders) → F → Names
+    → List Held → Type 0
+HoldTaken reads lists folders reader names held =
+    AreTaken (disk_of reads lists folders reader) names (map label_held held) (map bytes_held held)
 
-abbrev pub HoldSections : {F : Type 0} → (F → Reads) → (F → Lists) → F → Sources → List Held
-    → Type 0
-HoldSections reads lists reader sources held =
-    AreSections (disk_of reads lists reader) sources (map label_held held) (map bytes_held held)
+abbrev pub HoldSections : {F : Type 0} → (F → Reads) → (F → Lists) → (F → Folders) → F → Sources
+    → List Held → Type 0
+HoldSections reads lists folders reader sources held =
+    AreSections (disk_of reads lists folders reader) sources (map label_held held) (map bytes_held held)
+
+abbrev pub HoldFolders : Disk → Sources → List Held → List Path → Type 0
+HoldFolders disk sources held folders = AreFolders disk sources (map label_held held) folders
+
+-- The claim holds of sources whose profiles are read so.
+abbrev pub OfReading : Bool → (Sources → Type 0) → Type 0
+OfReading is_for_unison C = (sources : Sources) → sources.is_for_unison ≡ is_for_unison → C sources
+
+abbrev pub is_of_profile : Kind → Bool
+is_of_profile Profile = true
+is_of_profile _ = false
+
+-- The folder of this file is among those, if it is that of a profile and can be told.
+abbrev pub AddsFolder : Folders → Held → List Path → Type 0
+AddsFolder folders h all =
+    h.kind ≡ Profile → (told : Option Path) × HasFolder folders (string_bytes h.file) told
+    × IfSome told (Contains all)
+
+-- The first ones are among the others.
+abbrev pub AreAmong : List Path → List Path → Type 0
+AreAmong ps qs = (p : Path) → Contains ps p → Contains qs p
 
 -- What is held has the labels of these profiles and then of the others, and their texts with paths
 -- in place of the roots of hosts.

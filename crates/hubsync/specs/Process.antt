@@ -6,7 +6,7 @@ use Rattle.hubsync.specs.Bundled.{Disk, ServesInput, ServesNamed, Sources, disk_
 use Rattle.hubsync.specs.Strict.{Strictly}
 use Rattle.hubsync.specs.declared.captured.Captured.{Captured}
 use Rattle.hub_text.specs.declared.watched.Watched.{Watched}
-use Rattle.hub_folder.specs.Reading.{Lists, Reads}
+use Rattle.hub_folder.specs.Reading.{Folders, Lists, Reads}
 
 -- The files that words name, and whether they have `--unison`.
 abbrev pub sources_of : List (List ℕ) → Sources
@@ -27,9 +27,10 @@ pub record AnswersWords (disk : Disk) (words : List (List ℕ)) (remaining old n
 -- two functions tell the bytes of the input and of the output.
 abbrev pub AnswersOver : {D E F Z : Type 0} → Watched (Captured D) → Watched (Captured D)
     → Watched (Captured E) → Watched (Captured E)
-    → (D → Option (List ℕ)) → (E → Option (List ℕ)) → (F → Reads) → (F → Lists) → F
-    → List (String Z) → ℕ → Type 0
-AnswersOver input input_after output output_after remaining contents reads lists reader words status =
-    AnswersWords (disk_of reads lists reader) (map string_bytes words)
+    → (D → Option (List ℕ)) → (E → Option (List ℕ)) → (F → Reads) → (F → Lists)
+    → (F → Folders) → F → List (String Z) → ℕ → Type 0
+AnswersOver input input_after output output_after remaining contents reads lists folders reader words
+    status =
+    AnswersWords (disk_of reads lists folders reader) (map string_bytes words)
     (remaining input.device.device) (contents output.device.device)
     (contents output_after.device.device) (reads_between input input_after) output_after.failed status

@@ -1,12 +1,13 @@
 -- What is written to a device of which the first bytes are kept: of it before and after, and of the
 -- function that tells its bytes.
 use Rattle.std.specs.Prelude.{◌≡◌, ℕ, List, Option, String, map, string_bytes}
+use Rattle.hub_path.specs.Path.{Path}
 use Rattle.hub_bundle.specs.declared.part.Part.{Part}
 use Rattle.hub_cli.specs.Words.{asked_of}
 use Rattle.hub_folder.specs.declared.fault.Untaken.{Untaken}
 use Rattle.hub_serve.specs.Serves.{AnswersNothing, ServesOver, WritesText}
 use Rattle.hub_text.specs.declared.watched.Watched.{Watched}
-use Rattle.hubsync.specs.Bundled.{Disk, ServesFiles, ServesParts, Sources, WritesFault, WritesUntaken}
+use Rattle.hubsync.specs.Bundled.{Disk, ServesBundle, ServesFiles, ServesParts, Sources, WritesFault, WritesUntaken}
 use Rattle.hubsync.specs.declared.captured.Captured.{Captured}
 
 -- Nothing is written.
@@ -42,11 +43,19 @@ ReportsUntaken output output_after contents fault status =
     WritesUntaken fault (contents output.device.device) (contents output_after.device.device)
     output_after.failed status
 
--- The answer to words is given over the sections that these parts are.
+-- The answer to words is given over a bundle.
+abbrev pub ServesBundleTo : {E Z : Type 0} → Watched (Captured E) → Watched (Captured E)
+    → (E → Option (List ℕ)) → List (String Z) → List ℕ → ℕ → Type 0
+ServesBundleTo output output_after contents words bundle status =
+    ServesBundle (asked_of (map string_bytes words)) bundle (contents output.device.device)
+    (contents output_after.device.device) output_after.failed status
+
+-- The answer to words is given over the sections that these parts are, which keep out the archives in
+-- these folders.
 abbrev pub ServesPartsTo : {E Z : Type 0} → Watched (Captured E) → Watched (Captured E)
-    → (E → Option (List ℕ)) → List (String Z) → List Part → ℕ → Type 0
-ServesPartsTo output output_after contents words parts status =
-    ServesParts (asked_of (map string_bytes words)) parts (contents output.device.device)
+    → (E → Option (List ℕ)) → List (String Z) → List Path → List Part → ℕ → Type 0
+ServesPartsTo output output_after contents words folders parts status =
+    ServesParts (asked_of (map string_bytes words)) folders parts (contents output.device.device)
     (contents output_after.device.device) output_after.failed status
 
 -- The answer to words is given over files.

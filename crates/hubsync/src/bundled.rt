@@ -1,13 +1,15 @@
 //! Answers over a bundle that is made of files.
-ghost use Rattle.std.specs.Prelude.{◌≡◌, IfOk, false};
+ghost use Rattle.std.specs.Prelude.{◌≡◌, IfOk, codes, false};
 ghost use Rattle.hub_bundle.specs.Files.{bundle_of};
-ghost use Rattle.hubsync.specs.Written.{ReportsFault, ServesPartsTo, WritesTextTo};
+ghost use Rattle.hubsync.specs.Written.{ReportsFault, ServesBundleTo, ServesPartsTo, WritesTextTo};
 ghost use Rattle.hubsync.specs.Bundled as bundled;
 ghost use Rattle.hubsync.specs.Bundled.{file_fault_line, file_at, memory_line, reason_at, reason_for};
 
 use crate::captured::Captured;
 use crate::served::{Answered, Capture, serve_with_remarks};
+use hub_archives::{HeldArchives, find_archives};
 use hub_bundle::{FilesFault, Part, PartFault, bundle_of, part_fault};
+use hub_path::Root;
 use hub_source::SourceFile;
 use hub_text::Watched;
 use std::alloc::{AllocError, Global};
@@ -17,27 +19,96 @@ use std::thread::Threads;
 use std::time::Clock;
 
 /// Does what `serve_with_remarks` does over the bundle that is made of these parts, whose files these are. If none can be made of
-/// them, a fault says why: the first file that can't be a section, or that memory is out. Then the status is 2.
+/// them, a fault says why: the first file that can't be a section, or that memory is out. So it does if a profile doesn't keep out
+/// Unison's archives in one of these folders. Then the status is 2.
 pub fn serve_parts<T: AllocGlobal + Clock + Eprint + Threads + Wait + Sync, W: Write>(
     rt: &T,
     words: &[String],
     files: &[SourceFile<'_>],
+    folders: &[Root],
     parts: &[Part<'_>],
     output: &mut Watched<Captured<'_, W>>,
     capture: &Capture,
 ) -> Answered
     requires { output.old.failed ≡ false }
-    ensures { ServesPartsTo output.old output.new W.contents words.now parts.now result.status }
+    ensures { ServesPartsTo output.old output.new W.contents words.now folders.now parts.now
+        result.status }
 {
     let alloc = rt.alloc();
     match bundle_of(alloc, parts) {
-        Ok(bundle) => {
-            let mut input = Watched::new(Captured::new(bundle.as_slice(), &capture.input));
-            serve_with_remarks(rt, words, files, &mut input, output, capture)
-        }
+        Ok(bundle) => match find_archives(alloc, bundle.as_slice(), folders) {
+            Ok(None) => serve_bundle(rt, words, files, bundle.as_slice(), output, capture),
+            Ok(Some(held)) => Answered::plain(write_held(rt, folders, parts, &held, output)),
+            Err(AllocError) => Answered::plain(write_memory(output)),
+        },
         Err(FilesFault::File(i)) => Answered::plain(write_part_fault(rt, parts, i, output)),
         Err(FilesFault::OutOfMemory) => Answered::plain(write_memory(output)),
     }
+}
+
+/// Does what `serve_with_remarks` does over a bundle, that of these files.
+fn serve_bundle<T: AllocGlobal + Clock + Eprint + Threads + Wait + Sync, W: Write>(
+    rt: &T,
+    words: &[String],
+    files: &[SourceFile<'_>],
+    bundle: &[u8],
+    output: &mut Watched<Captured<'_, W>>,
+    capture: &Capture,
+) -> Answered
+    requires { output.old.failed ≡ false }
+    ensures { ServesBundleTo output.old output.new W.contents words.now bundle.now result.status }
+{
+    let mut input = Watched::new(Captured::new(bundle, &capture.input));
+    serve_with_remarks(rt, words, files, &mut input, output, capture)
+}
+
+/// Says that a profile doesn't keep out Unison's archives in one of these folders.
+fn write_held<T: AllocGlobal + Eprint, W: Write>(
+    rt: &T,
+    folders: &[Root],
+    parts: &[Part<'_>],
+    held: &HeldArchives,
+    output: &mut Watched<Captured<'_, W>>,
+) -> u8
+    requires { output.old.failed ≡ false }
+    ensures { ReportsFault output.old output.new W.contents (file_at parts.now held.now.section)
+        (codes "ArchivesInRoot") result }
+{
+    let file = file_at(parts, held.section);
+    let status = write_fault(rt.alloc(), file.as_bytes(), "ArchivesInRoot", output);
+    if let Some(folder) = folders.get(held.folder) {
+        say_held(rt, file, folder.as_str(), held.path.as_str());
+    }
+    status
+}
+
+/// The file of that number.
+fn file_at<'a>(parts: &[Part<'a>], number: usize) -> &'a str
+    ensures { result.now ≡ bundled.file_at parts.now number }
+{
+    match parts.get(number) {
+        Some(part) => part.file,
+        None => "",
+    }
+}
+
+/// Says the same on standard error, and what to do. If that fails too, there is nobody left to tell.
+fn say_held<T: Eprint>(rt: &T, file: &str, folder: &str, path: &str) {
+    let _ = eprintln!(rt;
+        "hubsync: {folder} is in a root of {file}: Unison would synchronize its own archives, while it writes them"
+    );
+    let _ = if path.is_empty() {
+        eprintln!(rt; "hubsync: it is the root: synchronize another folder")
+    } else if path.contains(has_meaning) {
+        eprintln!(rt; "hubsync: add an ignore line for {path}")
+    } else {
+        eprintln!(rt; "hubsync: add ignore = Path {path}, and keep nothing there by a path line")
+    };
+}
+
+/// Returns whether a character means something in a pattern.
+fn has_meaning(c: char) -> bool {
+    matches!(c, '*' | '?' | '[' | ']' | '{' | '}' | ',' | '\\')
 }
 
 /// Says why the file of this number can't be a section.

@@ -9,9 +9,9 @@ ghost use Rattle.hubsync.specs.Named.{AddsLabels, HaveLabels, HaveTexts, HoldRea
 ghost use Rattle.hubsync.specs.Named.{IsUnreadFile, IsUnreadOf, IsUnserved, OfHosts, bytes_for, bytes_held, label_held, label_named, sources_in, table_in, text_in};
 ghost use Rattle.hubsync.specs.Written.{ServesFilesTo, WritesNothing};
 
-use crate::archives::say_archives;
 use crate::bundled::{serve_parts, write_memory};
 use crate::captured::Captured;
+use crate::folders::folders_of;
 use crate::left_out::say_left_out;
 use crate::served::{Answered, Capture};
 use crate::sources::{HeldRoot, roots_in, source_files, written_roots};
@@ -102,7 +102,7 @@ pub fn serve_files<
     capture: &Capture,
 ) -> Answered
     requires { output.old.failed ≡ false }
-    ensures { ServesFilesTo output.old output.new W.contents (disk_of F.reads F.lists reader.now)
+    ensures { ServesFilesTo output.old output.new W.contents (disk_of F.reads F.lists F.folders reader.now)
         words.now (sources_in options.now) result.status }
 {
     match serve_named(rt, words, options, reader, output, capture) {
@@ -137,45 +137,32 @@ fn serve_named<
 ) -> Result<Answered, Unserved<'a>>
     requires { output.old.failed ≡ false }
     ensures served { IfOk result (λ a. ServesFilesTo output.old output.new W.contents
-        (disk_of F.reads F.lists reader.now) words.now (sources_in options.now) a.status) }
+        (disk_of F.reads F.lists F.folders reader.now) words.now (sources_in options.now) a.status) }
     ensures named { IfErr result
-        (IsUnserved (disk_of F.reads F.lists reader.now) (names_of options.now.files)) }
+        (IsUnserved (disk_of F.reads F.lists F.folders reader.now) (names_of options.now.files)) }
     ensures unread { IfErr result (λ _. output.new.failed ≡ false) }
     ensures silent { IfErr result (λ _. WritesNothing output.old output.new W.contents) }
 {
     let alloc = rt.alloc();
     let Sections { held, rootless } = read_sections(alloc, reader, options)?;
     let parts = parts_of(alloc, held.as_slice())?;
+    let folders = folders_of(alloc, reader, options.is_for_unison, held.as_slice())?;
     let roots = written_roots(alloc, held.as_slice())?;
     let files = source_files(alloc, held.as_slice(), roots.as_slice())?;
     let answered = serve_parts(
         rt,
         words,
         files.as_slice(),
+        folders.as_slice(),
         parts.as_slice(),
         output,
         capture,
     );
-    let misleads = say_notes(rt, capture, held.as_slice(), rootless.as_slice());
+    let misleads = say_left_out(rt, held.as_slice(), rootless.as_slice());
     Ok(Answered {
         status: answered.status,
         may_mislead: answered.may_mislead || misleads,
     })
-}
-
-/// Says what is to be said of files below an answer, and returns whether a yes may mislead. It also may where memory is out.
-fn say_notes<T: AllocGlobal + Eprint>(
-    rt: &T,
-    capture: &Capture,
-    held: &[Held],
-    rootless: &[String],
-) -> bool {
-    let has_left_out = say_left_out(rt, held, rootless);
-    let here = capture.here.as_ref().map(|path| path.as_str());
-    match say_archives(rt, here, held) {
-        Ok(has_archives) => has_left_out || has_archives,
-        Err(AllocError) => true,
-    }
 }
 
 /// Reads the files, as they are or for Unison.
@@ -184,9 +171,9 @@ fn read_sections<'a, F: FileReader>(
     reader: &F,
     options: &Options<'a>,
 ) -> Result<Sections, Unserved<'a>>
-    ensures ok { IfOk result (λ v. HoldSections F.reads F.lists reader.now
+    ensures ok { IfOk result (λ v. HoldSections F.reads F.lists F.folders reader.now
         (sources_in options.now) v.held.items) }
-    ensures err { IfErr result (IsUnserved (disk_of F.reads F.lists reader.now)
+    ensures err { IfErr result (IsUnserved (disk_of F.reads F.lists F.folders reader.now)
         (names_of options.now.files)) }
 {
     if options.is_for_unison {
@@ -203,7 +190,7 @@ fn read_plainly<'a, F: FileReader>(
     files: &Files<'a>,
 ) -> Result<Sections, Unserved<'a>>
     ensures ok { IfOk result (λ v. HoldRead (F.reads reader.now) (names_of files.now) v.held.items) }
-    ensures err { IfErr result (IsUnserved (disk_of F.reads F.lists reader.now)
+    ensures err { IfErr result (IsUnserved (disk_of F.reads F.lists F.folders reader.now)
         (names_of files.now)) }
 {
     let named = named_files(alloc, files)?;
@@ -223,9 +210,9 @@ fn read_for_unison<'a, F: FileReader>(
     reader: &F,
     files: &Files<'a>,
 ) -> Result<Sections, Unserved<'a>>
-    ensures ok { IfOk result (λ v. HoldTaken F.reads F.lists reader.now (names_of files.now)
+    ensures ok { IfOk result (λ v. HoldTaken F.reads F.lists F.folders reader.now (names_of files.now)
         v.held.items) }
-    ensures err { IfErr result (IsUnserved (disk_of F.reads F.lists reader.now)
+    ensures err { IfErr result (IsUnserved (disk_of F.reads F.lists F.folders reader.now)
         (names_of files.now)) }
 {
     let taken = match profiles_named(alloc, reader, files.profiles.as_slice()) {
@@ -254,7 +241,7 @@ fn read_hosts<'a, F: FileReader>(
 ) -> Result<Option<Hosts>, Unserved<'a>>
     ensures ok { IfOk result (λ h. IsTable (F.reads reader.now) (text_in file.entry) h) }
     ensures err { OfHosts file.entry
-        (λ names. IfErr result (IsUnserved (disk_of F.reads F.lists reader.now) names)) }
+        (λ names. IfErr result (IsUnserved (disk_of F.reads F.lists F.folders reader.now) names)) }
 {
     let Some(file) = file else {
         return Ok(None);

@@ -8,10 +8,10 @@
 //! that the words name (`files` reads them, `untaken` says what is wrong with one, and `bundled` answers over them).
 #![tactic(auto)]
 
-mod archives;
 mod bundled;
 mod captured;
 mod files;
+mod folders;
 mod left_out;
 mod reader;
 mod served;
@@ -43,7 +43,7 @@ use std::time::Clock;
 use std::{env, io};
 
 fn main(rt: HostRuntime) -> ExitCode {
-    let capture = Capture::new(rt.alloc(), rt.stderr().is_terminal(), current_folder(&rt));
+    let capture = Capture::new(rt.alloc(), rt.stderr().is_terminal());
     let mut input = Watched::new(Captured::new(rt.reader(), &capture.input));
     let mut output = Watched::new(Captured::new(io::writer(&rt), &capture.output));
     let is_terminal = rt.stdin().is_terminal();
@@ -51,7 +51,7 @@ fn main(rt: HostRuntime) -> ExitCode {
         &rt,
         arguments(&rt),
         is_terminal,
-        &SystemFiles::new(&rt),
+        &SystemFiles::new(&rt, current_folder(&rt)),
         &mut input,
         &mut output,
         &capture,
@@ -83,7 +83,7 @@ fn run<T: AllocGlobal + Clock + Eprint + Threads + Wait + Sync, F: FileReader, R
     requires input { input.old.failed ≡ false }
     requires output { output.old.failed ≡ false }
     ensures read { IfOk words (λ v. AnswersOver input.old input.new output.old output.new
-        R.remaining W.contents F.reads F.lists reader.now v.items (exit_status result)) }
+        R.remaining W.contents F.reads F.lists F.folders reader.now v.items (exit_status result)) }
     ensures unread { IfErr words (λ _. AnswersNothingTo output.old output.new W.contents
         (exit_status result)) }
 {
@@ -121,7 +121,7 @@ fn answer<
     requires input { input.old.failed ≡ false }
     requires output { output.old.failed ≡ false }
     ensures { AnswersOver input.old input.new output.old output.new R.remaining W.contents F.reads
-        F.lists reader.now words.now result }
+        F.lists F.folders reader.now words.now result }
 {
     match read_options(rt.alloc(), words) {
         Ok(options) => {

@@ -7,23 +7,25 @@ ghost use Rattle.hubsync.specs.Reading.{IsTooLong};
 use crate::captured::{Captured, Prefix};
 use hub_bundle::{InputFault, READ_TURNS, read_input};
 use hub_folder::{FileReader, ReadFault, Unread};
+use hub_path::{PathFault, Root};
 use hub_text::Watched;
-use std::alloc::Global;
+use std::alloc::{AllocError, Global};
 use std::cell::RefCell;
 use std::fs::{File, Files, read_dir};
 use std::io;
 use std::io::Read;
 
-/// The files of the system. What they have, no contract can tell.
+/// The files of the system. What they have and where they are, no contract can tell.
 #[derive(Drop)]
 pub struct SystemFiles<'a, T> {
     rt: &'a T,
+    here: Option<String>,
 }
 
 impl<'a, T> SystemFiles<'a, T> {
-    /// The files of the system.
-    pub fn new(rt: &'a T) -> SystemFiles<'a, T> {
-        SystemFiles { rt }
+    /// The files of the system. A relative path is one below `here`; if that isn't known, the folder of such a file can't be told.
+    pub fn new(rt: &'a T, here: Option<String>) -> SystemFiles<'a, T> {
+        SystemFiles { rt, here }
     }
 }
 
@@ -31,6 +33,8 @@ impl<'a, T: Files + Alloc + Clone + Drop> FileReader for SystemFiles<'a, T> {
     ghost reads = { λ _ _. None };
 
     ghost lists = { λ _ _. None };
+
+    ghost folders = { λ _ _. None };
 
     /// Reads a file as `read_input` reads an input.
     fn read_file(&self, alloc: Global, file: &str) -> Result<Vec<u8>, Unread> {
@@ -46,6 +50,63 @@ impl<'a, T: Files + Alloc + Clone + Drop> FileReader for SystemFiles<'a, T> {
             Ok(names) => Ok(names),
             Err(error) => Err(unread_by(Some(error))),
         }
+    }
+
+    /// The folder that a file is in, by its path alone: a `..` takes away the name before it, and no link is followed.
+    fn folder_of(&self, alloc: Global, file: &str) -> Result<Option<Root>, AllocError> {
+        let here = self.here.as_ref().map(|path| path.as_str());
+        match names_of_folder(alloc, here, file)? {
+            Some(names) => root_with(alloc, names.as_slice()),
+            None => Ok(None),
+        }
+    }
+}
+
+/// The names of the folder of a file from the top of the file system, if that can be told.
+fn names_of_folder<'a>(
+    alloc: Global,
+    here: Option<&'a str>,
+    file: &'a str,
+) -> Result<Option<Vec<&'a str>>, AllocError> {
+    let mut names = Vec::new(alloc);
+    if !file.starts_with("/") {
+        let Some(here) = here else {
+            return Ok(None);
+        };
+        push_names(&mut names, here)?;
+    }
+    if let Some((folder, _)) = file.rsplit_once('/') {
+        push_names(&mut names, folder)?;
+    }
+    Ok(Some(names))
+}
+
+/// Adds the names of a path. A `..` takes away the last one.
+fn push_names<'a>(names: &mut Vec<&'a str>, path: &'a str) -> Result<(), AllocError> {
+    for name in path.split('/') {
+        if name == ".." {
+            let _ = names.pop();
+        } else if !name.is_empty() && name != "." {
+            names.push(name)?;
+        }
+    }
+    Ok(())
+}
+
+/// The root of these names, if they are names of a path.
+fn root_with(alloc: Global, names: &[&str]) -> Result<Option<Root>, AllocError> {
+    let mut text = String::new(alloc);
+    for name in names {
+        text.push('/')?;
+        text.push_str(*name)?;
+    }
+    if names.is_empty() {
+        text.push('/')?;
+    }
+    match Root::read(alloc, text.as_str()) {
+        Ok(root) => Ok(Some(root)),
+        Err(PathFault::OutOfMemory) => Err(AllocError),
+        Err(_) => Ok(None),
     }
 }
 

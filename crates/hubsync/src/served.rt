@@ -23,7 +23,7 @@ const INPUT_BYTES: usize = 1_048_576;
 /// How many bytes of the output are kept for remarks on lines that it has for profiles.
 const OUTPUT_BYTES: usize = 262_144;
 
-/// What is kept of the input and of the output, who reads standard error, and where the process runs.
+/// What is kept of the input and of the output, and who reads standard error.
 #[derive(Drop)]
 pub struct Capture {
     /// Of the input.
@@ -32,18 +32,15 @@ pub struct Capture {
     pub output: RefCell<Prefix>,
     /// Whether standard error is a terminal.
     pub by_terminal: bool,
-    /// The path of the current folder, if it is known.
-    pub here: Option<String>,
 }
 
 impl Capture {
     /// Nothing was read and nothing was written. It doesn't allocate.
-    pub fn new(alloc: Global, by_terminal: bool, here: Option<String>) -> Capture {
+    pub fn new(alloc: Global, by_terminal: bool) -> Capture {
         Capture {
             input: RefCell::new(Prefix::new(alloc, INPUT_BYTES)),
             output: RefCell::new(Prefix::new(alloc, OUTPUT_BYTES)),
             by_terminal,
-            here,
         }
     }
 }

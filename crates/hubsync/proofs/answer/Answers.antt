@@ -14,7 +14,7 @@ returns-then-not-is_empty g c =
     let old = g.W.Write.contents c.args.output.now.device.device in
     let new = g.W.Write.contents c.serve_files-answered.new.output.device.device in
     let failed = c.serve_files-answered.new.output.failed in
-    let disk : Disk = record { reads = g.F.FileReader.reads c.args.reader.now; lists = g.F.FileReader.lists c.args.reader.now } in
+    let disk : Disk = record { reads = g.F.FileReader.reads c.args.reader.now; lists = g.F.FileReader.lists c.args.reader.now; folders = g.F.FileReader.folders c.args.reader.now } in
     let sources : sources_in c.in-Ok.options ≡ sources_of words = λ i. record { names = c.in-Ok.ensures.files i; is_for_unison = c.in-Ok.ensures.unison i } in
     let files = c.in-Ok.ensures.files in
     let some : are_none (files_of words) ≡ false = sym (ap are_none files) ∙ (sym c.is_empty.ensures ∙ grind (arith, c.if-not-is_empty.true)) in

@@ -1,5 +1,6 @@
 use Rattle.std.proofs.Common.{◌∙◌, ◌+◌, ap, arith}
 use Rattle.hub_folder.specs.Told.{profile_bytes}
+use Rattle.hub_folder.proofs.NotedFacts.{noted-more}
 use Rattle.hub_folder.proofs.OperandFacts.{named-more, profile_bytes_more, unnamed-at}
 use Rattle.hub_folder.proofs.operands.profiles_named.Goals as goal
 
@@ -20,6 +21,10 @@ loop-operand-preserved g c =
       named =
           named-more (g.F.FileReader.reads c.args.reader.now) (g.F.FileReader.lists c.args.reader.now) c.args.operands.now c.loop-operand.operand-index _
           old own _ c.loop-operand-test.true pushed c.loop-operand.invariant.named c.in-Ok.ensures.ok;
+      noted =
+          noted-more (g.F.FileReader.reads c.args.reader.now) (g.F.FileReader.lists c.args.reader.now) c.args.operands.now c.loop-operand.operand-index _
+          old own _ c.loop-operand.rootless.items c.in-Ok.own.rootless.items _ c.loop-operand-test.true pushed c.in_ok-push_paths-in-Ok.ensures
+          c.loop-operand.invariant.noted c.in-Ok.ensures.noted;
       bytes = omega (arith, sum, more, c.loop-operand.invariant.bytes);
       within = omega (arith, sum, c.in-Ok.ensures.fits);
     }

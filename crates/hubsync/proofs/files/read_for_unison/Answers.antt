@@ -13,7 +13,7 @@ returns-in-Err-read_hosts-clause-err g c = c.in-Err-read_hosts.ensures.err (name
 pub returns-clause-err : goal.returns-clause-err
 returns-clause-err g c =
     let names = names_of c.args.files.now in
-    let disk : Disk = record { reads = g.F.FileReader.reads c.args.reader.now; lists = g.F.FileReader.lists c.args.reader.now } in
+    let disk : Disk = record { reads = g.F.FileReader.reads c.args.reader.now; lists = g.F.FileReader.lists c.args.reader.now; folders = g.F.FileReader.folders c.args.reader.now } in
     option-unserved disk names (map label_named c.as_slice-2.result.now) c.in-Err-read_all.fault
     (ap (map label_named) c.as_slice-2.ensures.value ∙ c.in_ok-named.ensures ∙ ap (λ ns. map label_named ns ++ option_labels names) c.new.ensures.items)
     c.in-Err-read_all.ensures.err
@@ -21,7 +21,7 @@ returns-clause-err g c =
 pub returns-in-Ok-read_all-clause-ok : goal.returns-in-Ok-read_all-clause-ok
 returns-in-Ok-read_all-clause-ok g c =
     let names = names_of c.args.files.now in
-    let disk : Disk = record { reads = g.F.FileReader.reads c.args.reader.now; lists = g.F.FileReader.lists c.args.reader.now } in
+    let disk : Disk = record { reads = g.F.FileReader.reads c.args.reader.now; lists = g.F.FileReader.lists c.args.reader.now; folders = g.F.FileReader.folders c.args.reader.now } in
     let profiles = c.in-Ok.taken.profiles.items in
     let others = c.in-Ok-read_all.others.items in
     let held = c.in_ok-with_profiles-in-Ok-read_all.field-0.items in

@@ -20,7 +20,7 @@ returns-in-Err-BadHosts g c =
     let failed = c.write_bad_hosts.new.output.failed in
     let file = c.in-Err-BadHosts.file.now in
     let fault = c.in-Err-BadHosts.fault in
-    let disk : Disk = record { reads = g.F.FileReader.reads c.args.reader.now; lists = g.F.FileReader.lists c.args.reader.now } in
+    let disk : Disk = record { reads = g.F.FileReader.reads c.args.reader.now; lists = g.F.FileReader.lists c.args.reader.now; folders = g.F.FileReader.folders c.args.reader.now } in
     let is = of-bad-hosts disk (names_of c.args.options.now.files) c.in-Err-BadHosts.field-0 c.in-Err-BadHosts.file fault c.in-Err-BadHosts.field-0-is c.in-Err-BadHosts.ensures.named in
     let said = subst (λ old. WritesFault file (hosts_word fault) old new failed c.write_bad_hosts.result) c.in-Err-BadHosts.ensures.silent c.write_bad_hosts.ensures in
     let told = subst (λ status. WritesFault file (hosts_word fault) before new failed status) (sym c.plain-in-Err-BadHosts.ensures) said in

@@ -4,10 +4,11 @@ use Rattle.std.proofs.lemmas.List.Elements.{All-push, All-same}
 use Rattle.std.proofs.lemmas.List.Sums.{sum_by_push}
 use Rattle.hub_include.specs.Files.{known_of}
 use Rattle.hub_include.specs.Includes.{lines_of}
-use Rattle.hub_folder.specs.Taken.{IsUntaken, IsUntakenAfter, IsUntakenOf}
+use Rattle.hub_folder.specs.Taken.{IsUntakenAfter, IsUntakenOf, IsUntold}
 use Rattle.hub_folder.specs.Told.{IsTold, all_bytes_told, bytes_told, file_told}
 use Rattle.hub_folder.proofs.OperandFacts.{parted-item}
-use Rattle.hub_folder.proofs.ToldFacts.{over-limit, passed_up, untaken-after, untaken-of}
+use Rattle.hub_folder.proofs.ToldFacts.{over-limit, passed_up, told-each, untaken-of}
+use Rattle.hub_folder.proofs.UntoldFacts.{untold-after}
 use Rattle.hub_folder.proofs.shelf.Place.tell_all.Goals as goal
 
 pub loop-name-preserved : goal.loop-name-preserved
@@ -41,11 +42,13 @@ returns-in_err-one-clause-err g c =
     let i = c.loop-name.name-index in
     let before = map string_bytes (take i names) in
     let name = string_bytes c.name-item.result in
+    let known = known_of c.args.shelf.now in
     let e = c.in_err-one.field-0.0 in
     passed_up c.from_residual.result e (IsUntakenOf reads place taken (map string_bytes names)) c.from_residual.ensures.1
     (untaken-of reads place taken (map string_bytes names) before name (map string_bytes (drop (i + 1) names)) e
     (parted-item string_bytes names i c.name-item.result c.loop-name-test.true c.name-item.is)
-    (untaken-after reads place taken before name e (subst (λ n. IsUntaken reads place n e) c.as_str.ensures.value c.in_err-one.ensures.err)))
+    (untold-after reads place taken known before name e c.requires.known (told-each known before c.loop-name.told.items c.loop-name.invariant.told)
+    (subst (λ n. IsUntold place known n e) c.as_str.ensures.value c.in_err-one.ensures.err)))
 
 pub returns-in_err-bytes-clause-err : goal.returns-in_err-bytes-clause-err
 returns-in_err-bytes-clause-err g c =

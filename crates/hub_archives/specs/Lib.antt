@@ -1,0 +1,3 @@
+pub mod KeptOut
+pub mod Found
+pub mod examples

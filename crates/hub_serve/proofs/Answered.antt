@@ -26,11 +26,13 @@ use Rattle.hub_report.specs.Report.{status_of}
 use Rattle.hub_report.specs.laws.Starts.{begins-taken, first}
 use Rattle.hub_bundle.specs.declared.input.InputFault.TheVariants.{TurnsSpent}
 use Rattle.hub_serve.specs.Reads.{Reads}
-use Rattle.hub_serve.specs.Mended.{is_mend}
 use Rattle.hub_serve.specs.Rounds.{BeginsAsClash}
 use Rattle.hub_serve.specs.Shown.{IsWholeUnlessFailed, SpellsArchive, SpellsClashes, SpellsGraph, SpellsPlan, SpellsReach, SpellsRounds, SpellsRoundsRun, SpellsRunInOrder}
 use Rattle.hub_serve.specs.Told.{Holds}
-use Rattle.hub_serve.specs.Serves.{ServesInFull, Answers, AnswersNothing, WritesText}
+use Rattle.hub_serve.specs.Serves.{ServesInFull, Answers, AnswersNothing, Begins, WritesText}
+use Rattle.hub_serve.specs.Mended.{asks_mend, is_mend}
+use Rattle.hub_serve.specs.Shown.{SpellsRounds, SpellsRoundsRun, TellsSafe}
+use Rattle.hub_serve.proofs.FirstOf.{rounds-in, safe-in}
 use Rattle.hub_serve.specs.Shown.{ShowsImport, ShowsMend, TellsSafe, SpellsUnsafe, SpellsVerified}
 use Rattle.hub_serve.proofs.FirstLines.{only_safe, only_archive, only_clashes, only_graph, only_in_order, only_plan, only_rounds, only_verified, only_overlaps, only_breaches, only_reached, only_not_reached}
 use Rattle.hub_serve.proofs.Imports.{only_import}
@@ -199,46 +201,64 @@ written-le false status result l e = omega (arith, e, l)
 pub serves-answer : OverlapsShown → BreachesShown → (request : Request) (remaining old new : Option (List ℕ)) (reads : Reads) (write_failed : Bool) (status : ℕ)
     → Answers request remaining old new reads write_failed status → ServesInFull (Some request) remaining old new reads write_failed status
 serves-answer overlaps breaches request remaining old new reads write_failed status a = record {
-  few = written-le write_failed (status_of a.report) status (status-le a.report) a.writes.status_is;
-  nothing = λ is. absurd (none-some request (sym is));
+  first = record {
+    few = written-le write_failed (status_of a.report) status (status-le a.report) a.writes.status_is;
+    nothing = λ is. absurd (none-some request (sym is));
+    safe = λ bytes text o w. safe-in (Some request) bytes text write_failed status (safe bytes text o w);
+    verified = λ bytes text o w. verified-written request remaining old new reads write_failed status bytes w.before text o a w.input w.kept w.written;
+    same_archive = λ bytes text o w. archive-written request remaining old new reads write_failed status bytes w.before text o a w.input w.kept w.written;
+    overlap = λ bytes text o w. overlap-written request remaining old new reads write_failed status bytes w.before overlaps text o a w.input w.kept w.written;
+    breach = λ bytes text o w. breach-written request remaining old new reads write_failed status bytes w.before breaches text o a w.input w.kept w.written;
+    rounds = λ reading bytes text is w.
+        rounds-in (Some request) reading bytes _ write_failed status is (rounds bytes text (ap asks_mend is) w);
+    in_order = λ bytes text o w. in_order-written request remaining old new reads write_failed status bytes w.before text o a w.input w.kept w.written;
+    planned = λ bytes text o w. plan-written request remaining old new reads write_failed status bytes w.before text o a w.input w.kept w.written;
+    imported = λ bytes text is w z. imported-written request remaining old new reads write_failed status bytes w.before text a is w.input w.kept w.written z;
+    reached = λ bytes text o w. reached-written request remaining old new reads write_failed status bytes w.before text o a w.input w.kept w.written;
+    not_reached = λ bytes text o w. not_reached-written request remaining old new reads write_failed status bytes w.before text o a w.input w.kept w.written;
+  };
   answer = λ other is. subst (λ r. Answers r remaining old new reads write_failed status) (same_Some request other is) a;
-  safe = λ bytes text o w. safe-written request remaining old new reads write_failed status bytes w.before text o a w.input w.kept w.written;
-  verified = λ bytes text o w. verified-written request remaining old new reads write_failed status bytes w.before text o a w.input w.kept w.written;
-  same_archive = λ bytes text o w. archive-written request remaining old new reads write_failed status bytes w.before text o a w.input w.kept w.written;
-  overlap = λ bytes text o w. overlap-written request remaining old new reads write_failed status bytes w.before overlaps text o a w.input w.kept w.written;
-  breach = λ bytes text o w. breach-written request remaining old new reads write_failed status bytes w.before breaches text o a w.input w.kept w.written;
-  rounds = λ bytes text o w. rounds-written request remaining old new reads write_failed status bytes w.before text o a w.input w.kept w.written;
+  safe = safe;
+  rounds = rounds;
   graph = λ bytes text o w. graph-written request remaining old new reads write_failed status bytes w.before text o a w.input w.kept w.written;
   clashes = λ reading bytes text is w b. clashes-written request remaining old new reads write_failed status bytes w.before reading text a is w.input w.kept w.written b;
-  in_order = λ bytes text o w. in_order-written request remaining old new reads write_failed status bytes w.before text o a w.input w.kept w.written;
-  planned = λ bytes text o w. plan-written request remaining old new reads write_failed status bytes w.before text o a w.input w.kept w.written;
-  imported = λ bytes text is w z. imported-written request remaining old new reads write_failed status bytes w.before text a is w.input w.kept w.written z;
   mended = λ reading as_bundle bytes text is w z. mended-written request remaining old new reads write_failed status bytes w.before reading as_bundle text a is w.input w.kept w.written z;
-  reached = λ bytes text o w. reached-written request remaining old new reads write_failed status bytes w.before text o a w.input w.kept w.written;
-  not_reached = λ bytes text o w. not_reached-written request remaining old new reads write_failed status bytes w.before text o a w.input w.kept w.written;
 }
+  where
+    safe : (bytes text : List ℕ) → asks_mend (Some request) ≡ false → Begins remaining old new (codes "safe\n") bytes text
+        → TellsSafe (Some request) bytes text write_failed status
+    safe bytes text o w = safe-written request remaining old new reads write_failed status bytes w.before text o a w.input w.kept w.written
+
+    rounds : (bytes text : List ℕ) → asks_mend (Some request) ≡ false → Begins remaining old new (codes "rounds ") bytes text
+        → SpellsRounds (Some request) bytes (codes "rounds " ++ text) write_failed status
+        ⊎ SpellsRoundsRun (Some request) bytes (codes "rounds " ++ text) write_failed status
+    rounds bytes text o w = rounds-written request remaining old new reads write_failed status bytes w.before text o a w.input w.kept w.written
 
 -- The words ask for nothing.
 pub serves-nothing : (remaining old new : Option (List ℕ)) (reads : Reads) (write_failed : Bool) (status : ℕ)
     → AnswersNothing old new status → ServesInFull None remaining old new reads write_failed status
 serves-nothing remaining old new reads write_failed status a = record {
-  few = omega (arith, a.status_is);
-  nothing = λ is. a;
+  first = record {
+    few = omega (arith, a.status_is);
+    nothing = λ is. a;
+    safe = λ bytes text o w. absurd (nothing-written old new status w.before _ 115 a refl w.kept w.written);
+    verified = λ bytes text o w. absurd (nothing-written old new status w.before _ 118 a refl w.kept w.written);
+    same_archive = λ bytes text o w. absurd (nothing-written old new status w.before _ 115 a refl w.kept w.written);
+    overlap = λ bytes text o w. absurd (nothing-written old new status w.before _ 111 a refl w.kept w.written);
+    breach = λ bytes text o w. absurd (nothing-written old new status w.before _ 98 a refl w.kept w.written);
+    rounds = λ reading bytes text is w. absurd (none-some (about (ask.Rounds reading)) is);
+    in_order = λ bytes text o w. absurd (nothing-written old new status w.before _ 105 a refl w.kept w.written);
+    planned = λ bytes text o w. absurd (nothing-written old new status w.before _ 112 a refl w.kept w.written);
+    imported = λ bytes text is w z. absurd (none-some imported is);
+    reached = λ bytes text o w. absurd (nothing-written old new status w.before _ 114 a refl w.kept w.written);
+    not_reached = λ bytes text o w. absurd (nothing-written old new status w.before _ 110 a refl w.kept w.written);
+  };
   answer = λ request is. absurd (none-some request is);
   safe = λ bytes text o w. absurd (nothing-written old new status w.before _ 115 a refl w.kept w.written);
-  verified = λ bytes text o w. absurd (nothing-written old new status w.before _ 118 a refl w.kept w.written);
-  same_archive = λ bytes text o w. absurd (nothing-written old new status w.before _ 115 a refl w.kept w.written);
-  overlap = λ bytes text o w. absurd (nothing-written old new status w.before _ 111 a refl w.kept w.written);
-  breach = λ bytes text o w. absurd (nothing-written old new status w.before _ 98 a refl w.kept w.written);
   rounds = λ bytes text o w. absurd (nothing-written old new status w.before _ 114 a refl w.kept w.written);
   graph = λ bytes text o w. absurd (nothing-written old new status w.before _ 103 a refl w.kept w.written);
   clashes = λ reading bytes text is w b. absurd (none-some (about (ask.Clashes reading)) is);
-  in_order = λ bytes text o w. absurd (nothing-written old new status w.before _ 105 a refl w.kept w.written);
-  planned = λ bytes text o w. absurd (nothing-written old new status w.before _ 112 a refl w.kept w.written);
-  imported = λ bytes text is w z. absurd (none-some imported is);
   mended = λ reading as_bundle bytes text is w z. absurd (none-some (mended reading as_bundle) is);
-  reached = λ bytes text o w. absurd (nothing-written old new status w.before _ 114 a refl w.kept w.written);
-  not_reached = λ bytes text o w. absurd (nothing-written old new status w.before _ 110 a refl w.kept w.written);
 }
 
 anything : (r : Option (List ℕ)) → IfSome r (λ _. ⊤)

@@ -64,7 +64,7 @@ use Rattle.hub_serve.specs.Unison.{SpellsAs}
 use Rattle.hub_serve.proofs.BundleStart.{bundle-start}
 use Rattle.hub_serve.proofs.InUnison.{archive-in_unison, rounds-in_unison, safe-in_unison}
 use Rattle.hub_serve.proofs.Placed.{plan-places}
-use Rattle.hub_serve.proofs.PlansInUnison.{plan-in_unison}
+use Rattle.hub_serve.proofs.PlansInUnison.{plan-in_unison, plan-keeps}
 use Rattle.hub_serve.proofs.Planning.{unplanned-no_numbers}
 use Rattle.hub_serve.proofs.Asking.{asked-clashes, asks, reading-asked, reading-for-task, unrefused}
 use Rattle.hub_serve.proofs.Refused.{BreachesShown, OverlapsShown, breach-refused, overlap-refused}
@@ -346,13 +346,14 @@ plan-means request bytes (Made p) line l h =
       well = p.is_whole;
       plan = held;
       in_unison = plan-in_unison bytes line p.is_whole held;
+      kept = plan-keeps bytes line p.is_whole held;
       placed = plan-places bytes line p.is_whole held;
       status_is = refl;
     })
 plan-means request bytes (planned.Refused text refusal) line l h =
     let u = h.1 in
     subst (λ t. Means request bytes line 1 (start t)) (sym (l ∙ u.line_is))
-    (unplanned-means request bytes line _ u.reason (unplanned-no_numbers _ u.reason u.refused))
+    (unplanned-means request bytes line _ u.reason (unplanned-no_numbers _ _ u.reason u.refused))
 plan-means request bytes (BadRules f) line l h = subst (λ t. Means request bytes line 2 (start t)) (sym l) tt
 
 -- and of the start of the text of every answer.

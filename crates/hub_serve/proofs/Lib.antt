@@ -3,11 +3,11 @@ pub mod Refused
 pub mod SharedPairs
 pub mod WrittenSections
 pub mod InUnison
-pub mod Beside
 pub mod PlansInUnison
 pub mod Planning
 pub mod Placed
 pub mod FirstLines
+pub mod FirstOf
 pub mod Answered
 pub mod Short
 pub mod Told

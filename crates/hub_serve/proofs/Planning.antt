@@ -18,81 +18,84 @@ use Rattle.hub_report.specs.declared.plan_answer.PlanAnswer.TheVariants.{Made, R
 use Rattle.hub_report.specs.declared.report.Report.{Report}
 use Rattle.hub_report.specs.declared.report.Report.TheVariants as answer
 use Rattle.hub_unison.specs.Shared.{shared_pairs}
-use Rattle.hub_serve.proofs.Told.{apart-no_numbers}
-use Rattle.hub_serve.proofs.WrittenSections.{taken-written}
-use Rattle.hub_serve.specs.Plans.{AreFoundOf, IsRefusedPlan, IsWrittenOf, Takes}
+use Rattle.hub_apart.specs.UnisonLines.{IsRefusedInUnison, beside}
+use Rattle.hub_serve.proofs.Told.{refused-no_numbers}
+use Rattle.hub_serve.specs.Plans.{AreFoundOf, IsWrittenOf, Takes}
 use Rattle.hub_serve.specs.Told.{Holds}
-use Rattle.hub_serve.specs.Unison.{written_in}
-use Rattle.hub_serve.specs.forms.Planning.{IsUntaken, OfRead, OfTaken, ReadsAll, TellsPlan, TellsUnplanned}
+use Rattle.hub_serve.specs.forms.Planning.{IsUntaken, OfMade, OfTaken, TellsPlan, TellsUnplanned}
 use Rattle.hub_serve.specs.declared.taken.Taken.{Taken}
 
 -- The plan of the lines that were found is the answer;
-pub plan-told : (t : Taken) (readings : List Parts) (found : Apart) (r : Report) → ReadsAll t readings → AreFoundOf readings t.rules found → TellsPlan t.roster found r → OfTaken t r
-plan-told t readings found (answer.Planned (Made p)) read h w = λ bytes takes. (
+pub plan-told : (t : Taken) (archives : List (ℕ × ℕ)) (found : Apart) (r : Report) → archives ≡ shared_pairs t.profiles → AreFoundOf t.profiles t.rules found
+    → TellsPlan t.roster archives found r → OfTaken t r
+plan-told t archives found (answer.Planned (Made p)) shared h w = λ bytes takes. (
   refl,
   record {
     own = t;
     takes = takes;
-    readings = readings;
-    read = read (written_in takes.sections) (taken-written (counted_bundle bytes) t takes);
     lines = found.lines;
     all = h.all;
-    beside = h.beside;
+    pairs = h.pairs;
+    alone = h.alone;
     text_is = w.text
-        ∙ (ap (λ Ps. plan_text t.roster (set_of Ps found.rules) found.lines (shared_pairs Ps)) h.profiles
-        ∙ ap (λ Rs. plan_text t.roster (set_of readings Rs) found.lines (shared_pairs readings)) h.rules);
+        ∙ (ap (λ Ps. plan_text t.roster (set_of Ps found.rules) found.lines archives) h.profiles
+        ∙ (ap (λ Rs. plan_text t.roster (set_of (beside t.rules t.profiles) Rs) found.lines archives) h.rules
+        ∙ ap (plan_text t.roster (set_of (beside t.rules t.profiles) t.rules) found.lines) shared));
     whole_is = w.whole ∙ ap (λ Rs. is_whole t.roster Rs found.lines) h.rules;
   },
 )
-plan-told t readings found answer.OutOfMemory read h w = λ bytes takes. tt
-plan-told t readings found _ read h w = absurd w
+plan-told t archives found answer.OutOfMemory shared h w = λ bytes takes. tt
+plan-told t archives found _ shared h w = absurd w
 
 -- or why there is none.
-pub unplanned-told : (t : Taken) (readings : List Parts) (e : CheckFault) (r : Report) → ReadsAll t readings → IsRefusedPlan (set_of readings t.rules) e
-    → TellsUnplanned (set_of readings t.rules) e r → OfTaken t r
-unplanned-told t readings e (answer.Planned (Refused line refusal)) read h w = λ bytes takes. (
+pub unplanned-told : (t : Taken) (e : CheckFault) (r : Report) → IsRefusedInUnison t.profiles t.rules e
+    → TellsUnplanned (set_of (beside t.rules t.profiles) t.rules) e r → OfTaken t r
+unplanned-told t e (answer.Planned (Refused line refusal)) h w = λ bytes takes. (
   refl,
   record {
     own = t;
     takes = takes;
-    readings = readings;
-    read = read (written_in takes.sections) (taken-written (counted_bundle bytes) t takes);
     reason = e;
     refused = h;
     line_is = w;
   },
 )
-unplanned-told t readings e answer.OutOfMemory read h w = λ bytes takes. tt
-unplanned-told t readings e _ read h w = absurd w
+unplanned-told t e answer.OutOfMemory h w = λ bytes takes. tt
+unplanned-told t e _ h w = absurd w
 
--- The same of readings and rules.
-pub read-told : (roster : Roster) (Rs : List Rule) (readings : List Parts) (found : Apart) (r : Report) → AreFoundOf readings Rs found → TellsPlan roster found r → OfRead roster readings Rs r
-read-told roster Rs readings found r h w = λ t same_roster same_rules reads.
-    plan-told t readings found r reads (subst (λ Ss. AreFoundOf readings Ss found) (sym same_rules) h) (subst (λ x. TellsPlan x found r) (sym same_roster) w)
+-- The same of profiles and rules.
+pub made-told : (roster : Roster) (Ps : List Parts) (Rs : List Rule) (archives : List (ℕ × ℕ)) (found : Apart) (r : Report) → AreFoundOf Ps Rs found
+    → TellsPlan roster archives found r → OfMade roster Ps Rs archives r
+made-told roster Ps Rs archives found r h w = λ t same_roster same_profiles same_rules shared.
+    plan-told t archives found r (shared ∙ ap shared_pairs (sym same_profiles))
+    (subst (λ Qs. AreFoundOf Qs t.rules found) (sym same_profiles) (subst (λ Ss. AreFoundOf Ps Ss found) (sym same_rules) h))
+    (subst (λ x. TellsPlan x archives found r) (sym same_roster) w)
 
-pub unread-told : (roster : Roster) (Rs : List Rule) (readings : List Parts) (e : CheckFault) (r : Report) → IsRefusedPlan (set_of readings Rs) e
-    → TellsUnplanned (set_of readings Rs) e r → OfRead roster readings Rs r
-unread-told roster Rs readings e r h w = λ t same_roster same_rules reads.
-    unplanned-told t readings e r reads (subst (λ Ss. IsRefusedPlan (set_of readings Ss) e) (sym same_rules) h)
-    (subst (λ Ss. TellsUnplanned (set_of readings Ss) e r) (sym same_rules) w)
+pub unmade-told : (roster : Roster) (Ps : List Parts) (Rs : List Rule) (archives : List (ℕ × ℕ)) (e : CheckFault) (r : Report) → IsRefusedInUnison Ps Rs e
+    → ((S : Members) → TellsUnplanned S e r) → OfMade roster Ps Rs archives r
+unmade-told roster Ps Rs archives e r h w = λ t same_roster same_profiles same_rules shared.
+    unplanned-told t e r
+    (subst (λ Qs. IsRefusedInUnison Qs t.rules e) (sym same_profiles) (subst (λ Ss. IsRefusedInUnison Ps Ss e) (sym same_rules) h))
+    (w (set_of (beside t.rules t.profiles) t.rules))
 
 -- What is written is the plan of what was found.
 pub written-of : {E : Type 0} (r : Roster) (found : Apart) (result : Result Plan E) (Ps : List Parts) (Rs : List Rule) (es : List CheckFault) (archives : List (ℕ × ℕ))
-    → Ps ≡ found.profiles → Rs ≡ found.rules → es ≡ found.lines → archives ≡ shared_pairs Ps
-    → IfOk result (λ p. string_bytes p.text ≡ text_in r Ps Rs es archives) → IfOk result (λ p. p.is_whole ≡ is_whole r Rs es) → IfOk result (IsWrittenOf r found)
-written-of r found (Ok p) Ps Rs es archives ps rs ls shared text whole = record {
+    → Ps ≡ found.profiles → Rs ≡ found.rules → es ≡ found.lines
+    → IfOk result (λ p. string_bytes p.text ≡ text_in r Ps Rs es archives) → IfOk result (λ p. p.is_whole ≡ is_whole r Rs es) → IfOk result (IsWrittenOf r archives found)
+written-of r found (Ok p) Ps Rs es archives ps rs ls text whole = record {
   text = text
-      ∙ (ap (λ xs. text_in r Ps Rs es xs) shared
-      ∙ (ap (λ xs. text_in r xs Rs es (shared_pairs xs)) ps
-      ∙ (ap (λ xs. text_in r found.profiles xs es (shared_pairs found.profiles)) rs ∙ ap (λ xs. text_in r found.profiles found.rules xs (shared_pairs found.profiles)) ls)));
+      ∙ (ap (λ xs. text_in r xs Rs es archives) ps
+      ∙ (ap (λ xs. text_in r found.profiles xs es archives) rs ∙ ap (λ xs. text_in r found.profiles found.rules xs archives) ls));
   whole = whole ∙ (ap (λ xs. is_whole r xs es) rs ∙ ap (is_whole r found.rules) ls);
 }
-written-of r found (Err e) Ps Rs es archives ps rs ls shared text whole = tt
+written-of r found (Err e) Ps Rs es archives ps rs ls text whole = tt
 
 -- Such a reason has no numbers.
-pub unplanned-no_numbers : (S : Members) (e : CheckFault) → IsRefusedPlan S e → has_no_numbers e ≡ true
-unplanned-no_numbers S e (inl h) = apart-no_numbers S e h
-unplanned-no_numbers S e (inr h) = ap has_no_numbers h.0
+pub unplanned-no_numbers : (Ps : List Parts) (Rs : List Rule) (e : CheckFault) → IsRefusedInUnison Ps Rs e → has_no_numbers e ≡ true
+unplanned-no_numbers Ps Rs e (inl (inl h)) = ap has_no_numbers h
+unplanned-no_numbers Ps Rs e (inl (inr h)) = refused-no_numbers h.0 e h.2
+unplanned-no_numbers Ps Rs e (inr (inl h)) = ap has_no_numbers h
+unplanned-no_numbers Ps Rs e (inr (inr h)) = refused-no_numbers h.0 e h.2
 
 -- Where nothing is taken, that is the answer.
 pub untaken-holds : (bytes : List ℕ) (r : Report) → IsUntaken (counted_bundle bytes) r → Holds planned bytes r

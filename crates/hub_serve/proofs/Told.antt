@@ -56,19 +56,20 @@ refusal-told q c to_do is e (Refused t f) i stays h = record { to_do = to_do; as
 refusal-told q c to_do is e OutOfMemory i stays h = tt
 refusal-told q c to_do is e _ i stays h = absurd h
 
--- What keeps profiles that are put apart from being searched has no numbers.
+-- What keeps profiles and rules from being a set has no numbers;
+pub refused-no_numbers : (T : Members) (e : CheckFault) → IsRefused T e → has_no_numbers e ≡ true
+refused-no_numbers T fault.TooManyProfiles h = refl
+refused-no_numbers T (fault.SameName name) h = refl
+refused-no_numbers T (fault.NestedRoots r s) h = refl
+refused-no_numbers T (fault.AlphabetFault f) h = refl
+refused-no_numbers T fault.OutOfMemory h = refl
+refused-no_numbers T _ h = absurd h
+
+-- nor has what keeps profiles that are put apart from being searched.
 pub apart-no_numbers : (S : Members) (e : CheckFault) → IsRefusedApart S e → has_no_numbers e ≡ true
 apart-no_numbers S e (inl h) = ap has_no_numbers h
 apart-no_numbers S e (inr (inl h)) = ap has_no_numbers h.0
 apart-no_numbers S e (inr (inr h)) = refused-no_numbers h.0 e h.2
-  where
-    refused-no_numbers : (T : Members) (e : CheckFault) → IsRefused T e → has_no_numbers e ≡ true
-    refused-no_numbers T fault.TooManyProfiles h = refl
-    refused-no_numbers T (fault.SameName name) h = refl
-    refused-no_numbers T (fault.NestedRoots r s) h = refl
-    refused-no_numbers T (fault.AlphabetFault f) h = refl
-    refused-no_numbers T fault.OutOfMemory h = refl
-    refused-no_numbers T _ h = absurd h
 
 -- What is true of a set is true of the bundle that has it.
 pub set-told : (q : Question) (c : BundleContents) (to_do : Task) → task_of q c.state ≡ Some to_do → (r : Report) → IsToldOfSet to_do (members c) c.certificates r

@@ -1,20 +1,22 @@
 -- What a plan of Unison's runs says of an input.
 use Rattle.std.specs.Prelude.{◌≡◌, ◌⊎◌, ◌<◌, ◌≤◌, ◌==◌, ◌+◌, ℕ, Bool, true, false, if◌then◌else◌, List, [], ◌∷◌, ◌++◌, length, slice_get, Some, Contains, Result, Ok, Err, string_bytes}
 use Rattle.hub_path.specs.Path.{Name}
-use Rattle.hub_profile.specs.Parts.{IsProfile, Parts}
+use Rattle.hub_profile.specs.Parts.{Parts}
 use Rattle.hub_profile.specs.Reading.{profile_in}
 use Rattle.hub_profile.specs.Rules.{rules_in}
 use Rattle.hub_profile.specs.declared.fault.Fault.{Fault}
 use Rattle.hub_profile.specs.declared.fault.Fault.TheVariants.{OutOfMemory}
 use Rattle.hub_profile.specs.declared.fault.ProfileFault.{ProfileFault}
 use Rattle.hub_profile.specs.declared.rule.Rule.{Rule}
-use Rattle.hub_cert.specs.Set.{IsSafeSet, Members}
 use Rattle.hub_cert.specs.declared.fault.CheckFault.{CheckFault}
-use Rattle.hub_cert.specs.declared.fault.CheckFault.TheVariants as fault
-use Rattle.hub_cert.specs.declared.set.TheConstants.{PROFILES}
 use Rattle.hub_apart.specs.declared.searched.Apart.{Apart}
-use Rattle.hub_apart.specs.ApartLines.{AreLinesApart, IsRefusedApart, set_of, set_of_two}
-use Rattle.hub_rounds.specs.Lines.{HasPair}
+use Rattle.hub_apart.specs.ApartLines.{set_of}
+use Rattle.hub_apart.specs.UnisonLines as unison
+use Rattle.hub_apart.specs.WithoutLines.{NeverClash}
+use Rattle.hub_parts.specs.InUnison.{parts_read}
+use Rattle.hub_parts.specs.Whole.{AreRootsApart}
+use Rattle.hub_reach.specs.Safe.{share_archive}
+use Rattle.hub_rounds.specs.Lines.{HasNoOwnLine, HasPair}
 use Rattle.hub_bundle.specs.Bundle.{SectionValue, bundle_reading}
 use Rattle.hub_bundle.specs.declared.bundle.Heading.{Heading}
 use Rattle.hub_bundle.specs.declared.bundle.Heading.TheVariants as heading
@@ -28,9 +30,10 @@ use Rattle.hub_report.specs.declared.plan.Plan.{Plan}
 use Rattle.hub_report.specs.declared.plan.Roster.{Roster}
 use Rattle.hub_report.specs.declared.plan_answer.PlanAnswer.{PlanAnswer}
 use Rattle.hub_report.specs.declared.plan_answer.PlanAnswer.TheVariants.{Made, Refused, BadRules}
-use Rattle.hub_unison.specs.Rules.{AreReadForUnison}
-use Rattle.hub_unison.specs.Shared.{shared_pairs}
-use Rattle.hub_serve.specs.Unison.{written_in}
+use Rattle.hub_unison.specs.Rules.{KeepsRulesInUnison}
+use Rattle.hub_unison.specs.Shared.{ShareNoArchive, shared_pairs}
+use Rattle.hub_unison.specs.UnisonReach.{IsSafeInUnison}
+use Rattle.hub_unison.specs.Written.{AreWrittenAs, Written}
 use Rattle.hub_serve.specs.declared.taken.Taken.{Taken}
 
 -- Before the first section.
@@ -107,27 +110,41 @@ pub record HasBadRules (counted : List ℕ) (f : SectionFault) : Type 0 where
   pub bundle : bundle_reading counted ≡ Ok sections
   pub taken : taking no_profiles sections ≡ Err f
 
--- All of the profiles are valid.
-abbrev pub AreValid : List Parts → Type 0
-AreValid Ps = (i : ℕ) (P : Parts) → slice_get Ps i ≡ Some P → IsProfile P
+-- No runs of the two clash in Unison, wherever the roots lie, and they don't have the same two roots.
+-- If no different roots are nested, both are safe in Unison.
+pub record RunBeside (V W : Written) : Type 0 where
+  pub never : NeverClash V W
+  pub archives : share_archive V.parts W.parts ≡ false
+  pub safe : AreRootsApart (parts_read (V ∷ W ∷ [])) [] → IsSafeInUnison (V ∷ W ∷ [])
 
--- Each two of these of which no line says something are a safe set.
-abbrev pub AreSafeBeside : List Parts → List CheckFault → Type 0
-AreSafeBeside Ps lines =
-    (i j : ℕ) (P Q : Parts) → i < j → slice_get Ps i ≡ Some P → slice_get Ps j ≡ Some Q
-    → (HasPair lines i j → ⊥) → IsSafeSet (set_of_two P Q)
+-- Each two of these of which no line says something may run beside each other, if they don't have the
+-- same two roots, whatever lines say them.
+abbrev pub MayRunBeside : List Parts → List CheckFault → Type 0
+MayRunBeside Ps lines =
+    (Ws : List Written) (i j : ℕ) (V W : Written) → AreWrittenAs Ws Ps → i < j
+    → slice_get Ws i ≡ Some V → slice_get Ws j ≡ Some W → ShareNoArchive (parts_read (V ∷ W ∷ []))
+    → (HasPair lines i j → ⊥) → RunBeside V W
 
--- These are the lines of readings and rules, and of two readings without one both are safe.
-pub record AreFoundOf (readings : List Parts) (Rs : List Rule) (found : Apart) : Type 0 where
-  pub profiles : found.profiles ≡ readings
+-- By each of these of which alone no line says something Unison breaks no rule.
+abbrev pub KeepRules : List Parts → List Rule → List CheckFault → Type 0
+KeepRules Ps Rs lines =
+    (Ws : List Written) (i : ℕ) (W : Written) → AreWrittenAs Ws Ps → slice_get Ws i ≡ Some W
+    → HasNoOwnLine lines i → KeepsRulesInUnison (W ∷ []) Rs
+
+-- These are the lines of profiles and rules in Unison, with the readings beside the rules, and what
+-- follows for those without lines.
+pub record AreFoundOf (Ps : List Parts) (Rs : List Rule) (found : Apart) : Type 0 where
+  pub profiles : found.profiles ≡ unison.beside Rs Ps
   pub rules : found.rules ≡ Rs
-  pub all : AreLinesApart (set_of readings Rs) found.lines
-  pub beside : AreSafeBeside readings found.lines
+  pub all : unison.AreLinesInUnison Ps Rs found.lines
+  pub pairs : MayRunBeside Ps found.lines
+  pub alone : KeepRules Ps Rs found.lines
 
--- This is the plan of them.
-pub record IsWrittenOf (r : Roster) (found : Apart) (p : Plan) : Type 0 where
+-- This is the plan of them, where these pairs share an archive.
+pub record IsWrittenOf (r : Roster) (archives : List (ℕ × ℕ)) (found : Apart) (p : Plan) :
+    Type 0 where
   pub text : string_bytes p.text
-      ≡ plan_text r (set_of found.profiles found.rules) found.lines (shared_pairs found.profiles)
+      ≡ plan_text r (set_of found.profiles found.rules) found.lines archives
   pub whole : p.is_whole ≡ is_whole r found.rules found.lines
 
 -- The plan says of the profiles at these places among those that are read that they may not run at
@@ -159,34 +176,30 @@ PlacesEach r Rs es =
     (k : ℕ) → 0 < k → k ≤ length r.names
     → times_in k (order_of r Rs es) + times_in k (refused_of r Rs es) ≡ 1
 
--- A text is the plan of a bundle. It rests on the readings for Unison of the profiles that are read,
--- on the lines of each and of each two of them, and on the archives that two of them share.
+-- A text is the plan of a bundle. It rests on the lines in Unison of the profiles that are read, of
+-- each two near ones and of each with the rules, and on the archives that two of them share. It shows
+-- the readings beside the rules.
 pub record IsPlan (bytes text : List ℕ) (whole : Bool) : Type 0 where
   pub own : Taken
   pub takes : Takes (counted_bundle bytes) own
-  pub readings : List Parts
-  pub read : AreReadForUnison (written_in takes.sections) own.rules readings
   pub lines : List CheckFault
-  pub all : AreLinesApart (set_of readings own.rules) lines
-  pub beside : AreSafeBeside readings lines
+  pub all : unison.AreLinesInUnison own.profiles own.rules lines
+  pub pairs : MayRunBeside own.profiles lines
+  pub alone : KeepRules own.profiles own.rules lines
   pub text_is : text
-      ≡ plan_text own.roster (set_of readings own.rules) lines (shared_pairs readings)
+      ≡ plan_text own.roster (set_of (unison.beside own.rules own.profiles) own.rules) lines
+      (shared_pairs own.profiles)
   pub whole_is : whole ≡ is_whole own.roster own.rules lines
 
--- Why one or two of the readings can't be searched.
-abbrev pub IsRefusedPlan : Members → CheckFault → Type 0
-IsRefusedPlan S e =
-    IsRefusedApart S e ⊎ ((e ≡ fault.TooManyProfiles) × (PROFILES < length S.profiles))
-
--- That is so of a bundle, and this is the line that says it.
+-- That one or two of the profiles can't be searched is so of a bundle, and this is the line that says
+-- why.
 pub record IsUnplanned (bytes line : List ℕ) : Type 0 where
   pub own : Taken
   pub takes : Takes (counted_bundle bytes) own
-  pub readings : List Parts
-  pub read : AreReadForUnison (written_in takes.sections) own.rules readings
   pub reason : CheckFault
-  pub refused : IsRefusedPlan (set_of readings own.rules) reason
-  pub line_is : line ≡ refusal_line (set_of readings own.rules) reason
+  pub refused : unison.IsRefusedInUnison own.profiles own.rules reason
+  pub line_is : line
+      ≡ refusal_line (set_of (unison.beside own.rules own.profiles) own.rules) reason
 
 -- What holds of a bundle where a plan was asked for and that is the answer.
 abbrev pub PlanHolds : List ℕ → PlanAnswer → Type 0

@@ -120,32 +120,15 @@ pub record Serves (asked : Option Request) (remaining old new : Option (List ℕ
 -- status.
 pub record ServesInFull (asked : Option Request) (remaining old new : Option (List ℕ))
     (reads : Reads) (write_failed : Bool) (status : ℕ) : Type 0 where
-  pub few : status ≤ 3
-  pub nothing : asked ≡ None → AnswersNothing old new status
+  -- The first line that is written says that.
+  pub first : Serves asked remaining old new write_failed status
   pub answer : (request : Request) → asked ≡ Some request
       → Answers request remaining old new reads write_failed status
-  -- For other words than `mend`, whose lines begin with names of profiles: `safe` is written only if
-  -- the words ask for a check, for what clashes or for a run, and the input spells a safe set, as
-  -- the words want its profiles to be read. If that is for Unison, then by the lines that count no
-  -- two of its own profiles clash in Unison, and Unison breaks none of its rules. What follows it is
-  -- what its jobs did and left of the input's state, or why they weren't run.
+  -- What follows `safe` is what the jobs of the safe set did and left of the input's state, or why they
+  -- weren't run.
   pub safe : (bytes text : List ℕ) → asks_mend asked ≡ false
       → Begins remaining old new (codes "safe\n") bytes text
       → TellsSafe asked bytes text write_failed status
-  -- `verified` is written only if the words ask for `verify`, and the input's certificates show that
-  -- the set that it spells is safe.
-  pub verified : (bytes text : List ℕ) → asks_mend asked ≡ false
-      → Begins remaining old new (codes "verified\n") bytes text → SpellsVerified asked bytes
-  -- `same archive:` is written only for Unison, of two own profiles of the input that have the same two
-  -- roots: then Unison would spoil their one archive.
-  pub same_archive : (bytes text : List ℕ) → asks_mend asked ≡ false
-      → Begins remaining old new (codes "same archive: ") bytes text
-      → SpellsArchive asked bytes (codes "same archive: " ++ text) write_failed status
-  -- `overlap:` and `breach:` are written only if the input spells a set that isn't safe.
-  pub overlap : (bytes text : List ℕ) → asks_mend asked ≡ false
-      → Begins remaining old new (codes "overlap: ") bytes text → SpellsUnsafe asked bytes
-  pub breach : (bytes text : List ℕ) → asks_mend asked ≡ false
-      → Begins remaining old new (codes "breach: ") bytes text → SpellsUnsafe asked bytes
   -- `rounds` is written only if the words ask for rounds, and the input spells a set that is cut so;
   -- or if they ask for a run by rounds, and the rounds of the set that it spells were run on its
   -- state, one after another.
@@ -162,33 +145,12 @@ pub record ServesInFull (asked : Option Request) (remaining old new : Option (Li
       → asked ≡ Some (question.about (ask.Clashes reading))
       → Begins remaining old new [] bytes text → BeginsAsClash text
       → SpellsClashes reading bytes text write_failed status
-  -- `in order` is written only if they ask for a run in order. What follows it is what the jobs of the
-  -- set that the input spells did, and the state that they left: what they leave one after another, in
-  -- the order of their profiles, of the input's state (`IsSerial`). Or it says why they weren't run.
-  pub in_order : (bytes text : List ℕ) → asks_mend asked ≡ false
-      → Begins remaining old new (codes "in order\n") bytes text
-      → SpellsRunInOrder asked bytes (codes "in order\n" ++ text) write_failed status
-  -- `plan 1` is written only for `plan`, and two of the input's own profiles that are read and that
-  -- it doesn't set apart don't clash in Unison.
-  pub planned : (bytes text : List ℕ) → asks_mend asked ≡ false
-      → Begins remaining old new (codes "plan 1\n") bytes text
-      → SpellsPlan asked bytes (codes "plan 1\n" ++ text) write_failed status
-  -- What is written for `import` with status 0 is a bundle that says, read plainly, what the input
-  -- says for Unison.
-  pub imported : (bytes text : List ℕ) → asked ≡ Some question.imported
-      → Begins remaining old new [] bytes text → status ≡ 0 → ShowsImport bytes text
   -- What is written for `mend` with a status of 0 or 1 is lines that only take away, with which the
   -- set is safe or refused so, or the bundle with them.
   pub mended : (reading : Reading) (as_bundle : Bool) (bytes text : List ℕ)
       → asked ≡ Some (question.mended reading as_bundle)
       → Begins remaining old new [] bytes text → status ≤ 1
       → ShowsMend reading as_bundle bytes text status
-  -- `reached` and `not reached` are written only if the words ask for `reach`, and that is the
-  -- answer.
-  pub reached : (bytes text : List ℕ) → asks_mend asked ≡ false
-      → Begins remaining old new (codes "reached\n") bytes text → SpellsReach asked bytes true
-  pub not_reached : (bytes text : List ℕ) → asks_mend asked ≡ false
-      → Begins remaining old new (codes "not reached\n") bytes text → SpellsReach asked bytes false
 
 -- The same of a reader and a writer before and after, of which these functions tell the bytes.
 abbrev pub ServesOver : {D E : Type 0} → Watched D → Watched D → Watched E → Watched E

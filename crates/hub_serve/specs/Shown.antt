@@ -26,7 +26,9 @@ use Rattle.hub_serve.specs.ByRounds.{HasRunByRounds}
 use Rattle.hub_serve.specs.InOrder.{IsBelowInOrder}
 use Rattle.hub_serve.specs.Rounds.{DrawsClashes, ListsClashes, WritesRounds}
 use Rattle.hub_serve.specs.Runs.{IsBelow}
-use Rattle.hub_serve.specs.Plans.{IsApart, IsPlan, PlacesEach}
+use Rattle.hub_serve.specs.Plans.{IsApart, IsPlan, PlacesEach, RunBeside}
+use Rattle.hub_rounds.specs.Lines.{HasNoOwnLine}
+use Rattle.hub_unison.specs.Rules.{KeepsRulesInUnison}
 use Rattle.hub_unison.specs.Shared.{ShareNoArchive, is_shared, shared_pairs}
 use Rattle.hub_unison.specs.UnisonReach.{IsSafeInUnison}
 use Rattle.hub_unison.specs.Written.{Written}
@@ -132,9 +134,9 @@ abbrev pub SpellsRounds : Option Request → List ℕ → List ℕ → Bool → 
 SpellsRounds asked bytes = TellsUnlessFailed (ShowsRounds asked bytes)
 
 -- The words ask for a plan, and this is that of the bundle. If it doesn't say of two own profiles
--- that are read that they may not run at the same time, these don't clash in Unison, share no
--- archive and have no nested roots. Each profile is in the order, or is refused. The status is 0 if
--- none is refused, else 1.
+-- that are read that they may not run at the same time, these don't clash in Unison, wherever their
+-- roots lie, and share no archive. By one of which it says nothing alone Unison breaks no rule. Each
+-- profile is in the order, or is refused. The status is 0 if none is refused, else 1.
 pub record ShowsPlan (asked : Option Request) (bytes text : List ℕ) (status : ℕ) : Type 0 where
   pub is_asked : asked ≡ Some question.planned
   pub well : Bool
@@ -142,7 +144,9 @@ pub record ShowsPlan (asked : Option Request) (bytes text : List ℕ) (status : 
   pub in_unison : (i j : ℕ) (V W : Written) → i < j
       → slice_get (written_in plan.takes.sections) i ≡ Some V
       → slice_get (written_in plan.takes.sections) j ≡ Some W
-      → (IsApart plan.lines (shared_pairs plan.readings) i j → ⊥) → IsSafeInUnison (V ∷ W ∷ [])
+      → (IsApart plan.lines (shared_pairs plan.own.profiles) i j → ⊥) → RunBeside V W
+  pub kept : (i : ℕ) (W : Written) → slice_get (written_in plan.takes.sections) i ≡ Some W
+      → HasNoOwnLine plan.lines i → KeepsRulesInUnison (W ∷ []) plan.own.rules
   pub placed : PlacesEach plan.own.roster plan.own.rules plan.lines
   pub status_is : status ≡ (if well then 0 else 1)
 

@@ -51,6 +51,7 @@ use Rattle.hub_report.specs.Archive.{archive_line}
 use Rattle.hub_report.specs.Refusal.{refusal_line}
 use Rattle.hub_report.specs.declared.mended.Mended.{Mended}
 use Rattle.hub_import.specs.Imported.{contents_of}
+use Rattle.hub_import.specs.Text.{bundle_text}
 use Rattle.hub_report.specs.Report.{TellsRefusal}
 use Rattle.hub_serve.specs.ByRounds.{HasRunByRoundsAs, IsFirstAlone, RunsByRounds}
 use Rattle.hub_serve.specs.InOrder.{HasRunInOrderAs, IsPreventedInOrder, IsUndecidedInOrder}
@@ -223,6 +224,11 @@ pub record IsImported (request : Request) (c : BundleContents) (text : List ℕ)
   pub asked : request ≡ question.imported
   pub written : Spells text (contents_of c.profiles c.rules)
 
+-- It was asked for one, and there is none: the text that would say this isn't read as saying it.
+pub record IsNotImported (request : Request) (c : BundleContents) : Type 0 where
+  pub asked : request ≡ question.imported
+  pub unread : Spells (bundle_text c.profiles c.rules) (contents_of c.profiles c.rules) → ⊥
+
 -- What holds of the question and of what the bundle says where the program answers so to a bundle
 -- that was read.
 abbrev pub IsTold : Request → BundleContents → Report → Type 0
@@ -230,7 +236,7 @@ IsTold request c (answer.Faulty f) = ⊥
 IsTold request c (answer.Reach a) = IsToldOfReach request c.profiles a
 IsTold request c answer.NoState = LacksState request c.state
 IsTold request c (answer.Imported text) = IsImported request c text.items
-IsTold request c answer.NotImported = request ≡ question.imported
+IsTold request c answer.NotImported = IsNotImported request c
 IsTold request c (answer.Planned a) = ⊥
 IsTold request c (answer.Mended m) = ⊥
 IsTold request c answer.NotMended = ⊥

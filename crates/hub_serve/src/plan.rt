@@ -1,8 +1,10 @@
 //! Plans of Unison's runs.
-ghost use Rattle.std.specs.Prelude.{◌≡◌, None, IfErr, IfOk};
-ghost use Rattle.hub_apart.specs.ApartLines.{IsRefusedApart, set_of};
+ghost use Rattle.std.specs.Prelude.{◌≡◌, List, None, IfErr, IfOk};
+ghost use Rattle.hub_apart.specs.UnisonLines as unison;
 ghost use Rattle.hub_cert.specs.Set.{Members};
 ghost use Rattle.hub_cli.specs.Words.{planned};
+ghost use Rattle.hub_profile.specs.Parts.{Parts};
+ghost use Rattle.hub_profile.specs.declared.rule.Rule.{Rule as FileRule};
 ghost use Rattle.hub_report.specs.Report.{unread_by};
 ghost use Rattle.hub_serve.specs.Plans as plans;
 ghost use Rattle.hub_serve.specs.Told as told;
@@ -11,16 +13,17 @@ ghost use Rattle.hub_serve.specs.forms.Planning as planning;
 use crate::answer::bad_bundle;
 use crate::reading::counted_as;
 use crate::taken::{Taken, taken_of};
-use hub_apart::{Apart, lines_apart};
+use hub_apart::laws::{
+    profiles_without_lines_are_safe_in_unison, rounds_without_lines_are_safe_in_unison,
+};
+use hub_apart::{Apart, lines_in_unison};
 use hub_bundle::{ReadError, read_bundle};
-use hub_cert::laws::certificates_make_a_set_safe;
-use hub_cert::{CheckFault, PROFILES};
+use hub_cert::CheckFault;
 use hub_cli::Reading;
 use hub_profile::{Profile, Rules};
 use hub_report::{Plan, PlanAnswer, Report, Roster, plan_of};
-use hub_search::laws::faults_say_what_is_unsafe;
 use hub_text::Items;
-use hub_unison::{read_set, shared_archives};
+use hub_unison::shared_archives;
 use std::alloc::{AllocError, Global};
 
 /// The answer with a plan of Unison's runs by the profiles of an input's bytes. A profile that can't be read is in it: it runs
@@ -73,65 +76,43 @@ fn report_on_taken<'a>(alloc: Global, taken: Taken) -> Report<'a>
         profiles,
         rules,
     } = taken;
-    match read_set(alloc, profiles, &rules) {
-        Ok(readings) => report_on_read(alloc, &roster, readings, rules),
+    match shared_archives(alloc, profiles.as_slice()) {
+        Ok(archives) => report_on_made(alloc, &roster, profiles, rules, archives.as_slice()),
         Err(AllocError) => Report::OutOfMemory,
     }
 }
 
-/// The answer with the plan of these readings and rules.
-fn report_on_read<'a>(
+/// The answer with the plan of these profiles and rules, where these pairs share an archive.
+fn report_on_made<'a>(
     alloc: Global,
     roster: &Roster,
-    readings: Items<Profile>,
+    profiles: Items<Profile>,
     rules: Rules,
+    archives: &[(usize, usize)],
 ) -> Report<'a>
-    ensures planned { planning.OfRead roster.now readings rules result }
+    ensures planned { planning.OfMade roster.now profiles rules archives.now result }
     ensures read { unread_by result ≡ None }
 {
-    match lines_of(alloc, readings, rules) {
-        Ok(found) => report_on_found(alloc, roster, &found),
+    match lines_of(alloc, profiles, rules) {
+        Ok(found) => report_on_found(alloc, roster, archives, &found),
         Err(fault) => refused(alloc, &fault),
     }
 }
 
-/// The lines of these readings and rules, of one and two of them at a time.
-fn lines_of(alloc: Global, readings: Items<Profile>, rules: Rules) -> Result<Apart, CheckFault>
-    ensures found { IfOk result (plans.AreFoundOf readings rules) }
-    ensures refused { IfErr result
-        (plans.IsRefusedPlan (set_of readings rules)) }
+/// The lines of these profiles and rules in Unison.
+fn lines_of(alloc: Global, profiles: Items<Profile>, rules: Rules) -> Result<Apart, CheckFault>
+    ensures found { IfOk result (plans.AreFoundOf profiles rules) }
+    ensures refused { IfErr result (unison.IsRefusedInUnison profiles rules) }
 {
-    if readings.len() > PROFILES {
-        return Err(CheckFault::TooManyProfiles);
-    }
-    found_of(alloc, readings, rules)
-}
-
-/// The same of so many that they may be searched.
-fn found_of(alloc: Global, readings: Items<Profile>, rules: Rules) -> Result<Apart, CheckFault>
-    ensures found { IfOk result (plans.AreFoundOf readings rules) }
-    ensures refused { IfErr result (IsRefusedApart (set_of readings rules)) }
-{
-    let found = lines_apart(alloc, readings, rules)?;
-    check_valid(found.profiles.as_slice());
-    faults_say_what_is_unsafe();
-    certificates_make_a_set_safe();
-    Ok(found)
-}
-
-/// Each profile is valid.
-fn check_valid(profiles: &[Profile])
-    ensures { plans.AreValid profiles.now }
-{
-    for profile in profiles {
-        let _ = profile.roots();
-    }
+    profiles_without_lines_are_safe_in_unison();
+    rounds_without_lines_are_safe_in_unison();
+    lines_in_unison(alloc, profiles, rules)
 }
 
 /// The answer that these profiles can't be searched, because of that fault.
 fn refused<'a>(alloc: Global, fault: &CheckFault) -> Report<'a>
-    ensures told { (S : Members) → plans.IsRefusedPlan S fault.now
-        → planning.TellsUnplanned S fault.now result }
+    ensures told { (S : Members) (Ps : List Parts) (Rs : List FileRule)
+        → unison.IsRefusedInUnison Ps Rs fault.now → planning.TellsUnplanned S fault.now result }
     ensures read { unread_by result ≡ None }
 {
     match Report::refusal_without_set(alloc, fault) {
@@ -140,29 +121,37 @@ fn refused<'a>(alloc: Global, fault: &CheckFault) -> Report<'a>
     }
 }
 
-/// The answer with the plan by these lines.
-fn report_on_found<'a>(alloc: Global, roster: &Roster, found: &Apart) -> Report<'a>
-    ensures told { planning.TellsPlan roster.now found.now result }
+/// The answer with the plan by these lines, and by the archives that are shared.
+fn report_on_found<'a>(
+    alloc: Global,
+    roster: &Roster,
+    archives: &[(usize, usize)],
+    found: &Apart,
+) -> Report<'a>
+    ensures told { planning.TellsPlan roster.now archives.now found.now result }
     ensures read { unread_by result ≡ None }
 {
-    match plan_by(alloc, roster, found) {
+    match plan_by(alloc, roster, archives, found) {
         Ok(plan) => Report::Planned(PlanAnswer::Made(plan)),
         Err(AllocError) => Report::OutOfMemory,
     }
 }
 
 /// The plan by these lines, and by the archives that are shared.
-fn plan_by(alloc: Global, roster: &Roster, found: &Apart) -> Result<Plan, AllocError>
-    ensures { IfOk result (plans.IsWrittenOf roster.now found.now) }
+fn plan_by(
+    alloc: Global,
+    roster: &Roster,
+    archives: &[(usize, usize)],
+    found: &Apart,
+) -> Result<Plan, AllocError>
+    ensures { IfOk result (plans.IsWrittenOf roster.now archives.now found.now) }
 {
-    let profiles = found.profiles.as_slice();
-    let archives = shared_archives(alloc, profiles)?;
     plan_of(
         alloc,
         roster,
-        profiles,
+        found.profiles.as_slice(),
         found.rules.as_slice(),
         found.lines.as_slice(),
-        archives.as_slice(),
+        archives,
     )
 }

@@ -14,8 +14,7 @@ use Rattle.hub_report.specs.declared.report.Report.{Report}
 use Rattle.hub_report.specs.declared.report.Report.TheVariants as answer
 use Rattle.hub_profile.specs.Parts.{Parts}
 use Rattle.hub_profile.specs.declared.rule.Rule.{Rule}
-use Rattle.hub_unison.specs.Rules.{AreReadForUnison}
-use Rattle.hub_unison.specs.Written.{AreWrittenAs, Written}
+use Rattle.hub_unison.specs.Shared.{shared_pairs}
 use Rattle.hub_serve.specs.Plans.{HasBadRules, IsWrittenOf, Takes}
 use Rattle.hub_serve.specs.Told.{Holds}
 use Rattle.hub_serve.specs.declared.taken.Taken.{Taken}
@@ -36,21 +35,17 @@ abbrev pub OfCounted : List ℕ → Report → Type 0
 OfCounted counted r =
     (bytes : List ℕ) → counted ≡ counted_bundle bytes → Holds planned bytes r
 
--- These are the readings of what is taken, however it is written.
-abbrev pub ReadsAll : Taken → List Parts → Type 0
-ReadsAll t readings =
-    (Ws : List Written) → AreWrittenAs Ws t.profiles → AreReadForUnison Ws t.rules readings
-
--- The answer holds where this is taken and these are the readings.
-abbrev pub OfRead : Roster → List Parts → List Rule → Report → Type 0
-OfRead roster readings Rs r =
-    (t : Taken) → t.roster ≡ roster → t.rules ≡ Rs → ReadsAll t readings → OfTaken t r
+-- The answer holds where these profiles and rules are taken, and these pairs share an archive.
+abbrev pub OfMade : Roster → List Parts → List Rule → List (ℕ × ℕ) → Report → Type 0
+OfMade roster Ps Rs archives r =
+    (t : Taken) → t.roster ≡ roster → t.profiles ≡ Ps → t.rules ≡ Rs → archives ≡ shared_pairs Ps
+    → OfTaken t r
 
 -- These profiles and rules are planned by these lines.
-abbrev pub TellsPlan : Roster → Apart → Report → Type 0
-TellsPlan roster found (answer.Planned (Made p)) = IsWrittenOf roster found p
-TellsPlan roster found answer.OutOfMemory = ⊤
-TellsPlan roster found _ = ⊥
+abbrev pub TellsPlan : Roster → List (ℕ × ℕ) → Apart → Report → Type 0
+TellsPlan roster archives found (answer.Planned (Made p)) = IsWrittenOf roster archives found p
+TellsPlan roster archives found answer.OutOfMemory = ⊤
+TellsPlan roster archives found _ = ⊥
 
 -- They can't be searched for that reason.
 abbrev pub TellsUnplanned : Members → CheckFault → Report → Type 0

@@ -4,15 +4,17 @@
     tests/refuse.py [--program PATH] [--only WORD]
 
 Of PATH (crates/hubsync/out/hubsync) these are tried: `check`, `certify`, `verify` and `reach` on safe bundles and on those that
-are refused or faulty, and `run` by one, two and three workers on bundles with one, two and three jobs, in each thread. Standard
-error has at most remarks on the answer, and none if that is `fault: out of memory`. An answer is right if
+are refused or faulty, `run` by one, two and three workers on bundles with one, two and three jobs, and `run --in-order` by one and four
+workers on three jobs of which two clash, in each thread. Standard error has at most remarks on the answer, and none if that is
+`fault: out of memory`. An answer is right if
 
 - it is that with ample memory;
 - it is `fault: out of memory`, status 2;
-- a request of the first thread of a run was refused: it is `safe` and `run fault: ThreadRefused`, status 3;
+- a request of the first thread of a run was refused: it is the first line and `run fault: ThreadRefused`, status 3;
 - a request of a worker was refused: the status is 3, at least one job is stopped and the others ended as with ample memory. In
   the state below, the paths of a finished job are as with ample memory. Each path of a stopped job is at each root as it was before,
-  or as with ample memory, and its archive is as it was.
+  or as with ample memory, and its archive is as it was. In order one job is stopped after some of its changes, and those after it
+  end as they do in runs of one after another on what it left.
 
 The test programs are asked the questions of QUESTIONS, each by itself. Their answer is that with ample memory, or one of those that
 are given, where memory for a step was refused and the next steps go on, or it is the error. Those that aren't built are left out,
@@ -38,7 +40,6 @@ NONE_EXPECTED = b'0 right\n'    # the last line of a test program whose question
 OUT_OF_MEMORY = b'fault: out of memory\n'
 # What is said of an input of which not all is kept. All inputs here are short.
 OF_LONG_INPUTS = (b'the input is longer', b'a profile follows a line')
-REFUSED = b'safe\nrun fault: ThreadRefused\n'
 ROOTS = 'root = /srv/hub\nroot = /srv/s1\n'
 
 
@@ -127,6 +128,7 @@ class Ran:
 
     def __init__(self, before, ample):
         self.ample = ample
+        self.refused = ample.split(b'\n', 1)[0] + b'\nrun fault: ThreadRefused\n'
         self.before = parts_of(before)
         self.jobs, state = cut(ample)
         self.after = parts_of(state)
@@ -137,8 +139,8 @@ class Ran:
         if (status, output) == (0, self.ample):
             return 'ample'
         if thread == 0:
-            return {(2, OUT_OF_MEMORY): 'out of memory', (3, REFUSED): 'refused thread'}.get((status, output), 'wrong')
-        return 'stopped' if status == 3 and output != REFUSED and self.is_stopped(output) else 'wrong'
+            return {(2, OUT_OF_MEMORY): 'out of memory', (3, self.refused): 'refused thread'}.get((status, output), 'wrong')
+        return 'stopped' if status == 3 and output != self.refused and self.is_stopped(output) else 'wrong'
 
     def is_stopped(self, output):
         jobs, state = cut(output)
@@ -154,6 +156,47 @@ class Ran:
             if parts.get(key) not in allowed:
                 return False
         return True
+
+
+class RanInOrder(Ran):
+    """Judges runs in order, by runs of one profile after another. Each change of a job brings a file, and they come by path."""
+
+    def __init__(self, before, ample, program, profiles):
+        super().__init__(before, ample)
+        self.program, self.profiles = program, ['%profile ' + it for it in profiles.split('%profile ')[1:]]
+        self.left = {self.one_by_one(before, name, made) for name, lines in self.jobs.items() for made in range(len(lines))}
+        if self.one_by_one(before) != ample:
+            self.ample = None    # no answer is right
+
+    def run(self, profile, now):
+        """The lines of the job of a profile, and the state that it leaves."""
+        bundle = profile.encode() + b'%state\n' + now
+        answer = subprocess.run([self.program, 'run'], input=bundle, capture_output=True, check=True).stdout
+        at = answer.index(b'hubsync state ')
+        return answer[answer.index(b'\n') + 1:at], answer[at:]
+
+    def one_by_one(self, now, stopped=None, made=0):
+        """The answer if the job of that name is stopped when it has made so many of its changes."""
+        lines = b''
+        for profile, (name, items) in zip(self.profiles, self.jobs.items()):
+            own, after = self.run(profile, now)
+            if name == stopped:
+                own = f'job {name} stopped\n'.encode()
+                after = self.with_changes(profile, items[1:made + 1], now)
+            lines, now = lines + own, after
+        return b'in order\n' + lines + now
+
+    def with_changes(self, profile, items, now):
+        """The state with these changes of a job, and no other archive."""
+        if not items:
+            return now
+        paths = ''.join(f'path = {item.split(" ")[2]}\n' for item in items)
+        _, after = self.run(profile[:profile.index('path = ')] + paths, now)
+        archives = re.compile(rb'^(archive |end$).*', re.M | re.S)    # to the end of the text
+        return archives.sub(archives.search(now)[0], after)
+
+    def is_stopped(self, output):
+        return output in self.left
 
 
 class Answered:
@@ -243,6 +286,16 @@ SAFE = profile('a', 'ignore = Name {x*,[0-9]y}\n') + profile('b') + '%rules\nroo
 ONE = (profile('a'), state('file 61 a', ''))
 TWO = (profile('a') + profile('b'), state('file 61 a', 'file 62 b'))
 THREE = (profile('a') + profile('b') + profile('c'), state('file 61 a; dir c; file 63 c/x', 'file 62 b; dir c; file 64 c/y'))
+# `b` brings to /srv/s2 what `a` brought to /srv/hub. It runs in a second wave, after `a` and `c`.
+AFTER_A = '%profile b\nroot = /srv/hub\nroot = /srv/s2\npath = a\n'
+CLASHING = (profile('a') + AFTER_A + profile('c'), state('dir a; file 63 c', 'dir a; file 61 a/x; file 62 a/y\nreplica /srv/s2\ndir a'))
+# The words, the bundle, and for some numbers of workers how many threads are started at once, and how many in all.
+RUNS = [
+    (['run'], ONE, [(1, 1, 1)]),
+    (['run'], TWO, [(1, 1, 1), (2, 2, 2)]),
+    (['run'], THREE, [(1, 1, 1), (2, 2, 2), (3, 3, 3)]),
+    (['run', '--in-order'], CLASHING, [(1, 1, 2), (4, 2, 3)]),
+]
 # The words, the bundle, and the status and the first line with ample memory.
 COMMANDS = [
     ([], SAFE, 0, 'safe'),
@@ -262,6 +315,9 @@ COMMANDS = [
     ([], profile('a') + '%state\n' + state('file 61 b/c', ''), 2, 'fault: state line 3: NoParent'),
     (['run'], SAFE, 2, 'fault: no state'),
     (['run', '--workers', '0'], ONE[0] + '%state\n' + ONE[1], 3, 'safe'),
+    (['run', '--in-order', '--workers', '0'], CLASHING[0] + '%state\n' + CLASHING[1], 3, 'in order'),
+    (['run', '--in-order'], CLASHING[0] + '%rules\nroot = /srv/s1\nnolose = BelowPath a\n%state\n' + CLASHING[1], 1,
+     'breach: a may delete a at /srv/s1, rule 0'),
 ]
 # A test program, what is given and asked, and the answers where memory for a step was refused. `None` are those of a run.
 STATE = state('file 61 a', 'file 62 b')
@@ -338,25 +394,25 @@ def try_commands(runner, program, only):
 
 def try_runs(runner, program, only):
     wrong = 0
-    for jobs, (profiles, before) in enumerate([ONE, TWO, THREE], 1):
+    for words, (profiles, before), numbers in RUNS:
         data = (profiles + '%state\n' + before).encode()
         bound = 0
-        for workers in range(1, jobs + 1):
-            command = [program, 'run', '--workers', str(workers)]
-            title = f'hubsync run --workers {workers}, {jobs} jobs'
+        for workers, at_once, threads in numbers:
+            command = [program, *words, '--workers', str(workers)]
+            title = f'hubsync {" ".join(words)} --workers {workers}, {profiles.count("%")} jobs'
             if only not in title:
                 continue
             _, status, ample, _ = runner.run(command, data)
-            judge = Ran(before.encode(), ample).judge
-            if judge(status, ample, b'', 0) != 'ample':
+            ran = RanInOrder(before.encode(), ample, program, profiles) if '--in-order' in words else Ran(before.encode(), ample)
+            if ran.judge(status, ample, b'', 0) != 'ample':
                 print(f'{title}: status {status}, {ample[:200]!r}')
                 wrong += 1
                 continue
-            wrong += say(f'{title}, the first thread', *runner.each(command, data, judge, 0, workers))
-            for thread in range(1, workers + 1):
-                result = runner.each(command, data, judge, thread, workers, bound if workers > 1 else None)
+            wrong += say(f'{title}, the first thread', *runner.each(command, data, ran.judge, 0, at_once))
+            for thread in range(1, threads + 1):
+                result = runner.each(command, data, ran.judge, thread, at_once, bound if workers > 1 else None)
                 if workers == 1:
-                    bound = result[0]
+                    bound = max(bound, result[0])
                 wrong += say(f'{title}, worker {thread}', *result)
     return wrong
 

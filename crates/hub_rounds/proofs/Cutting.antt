@@ -9,12 +9,15 @@ use Rattle.std.proofs.lemmas.Option.{same_Some}
 use Rattle.hub_profile.specs.Parts.{Parts}
 use Rattle.hub_cert.specs.Set.{IsSafeSet, Members}
 use Rattle.hub_cert.specs.declared.fault.CheckFault.{CheckFault}
-use Rattle.hub_rounds.specs.Rounds.{AreSplit, ArePlaced, AreRivals, AreRounds, AreUsed, AreWhole, IsPlaced, is_in_round, is_in_some, is_outside, profiles_in_round}
+use Rattle.hub_rounds.specs.Numbered.{AreStanding, StandAsNumbers}
+use Rattle.hub_rounds.specs.Rounds.{ArePlaced, AreRivals, AreRounds, AreWhole, IsPlaced, is_in_round, is_in_some, is_outside, profiles_in_round}
 use Rattle.hub_rounds.specs.laws.Rounds.{round-at}
 use Rattle.hub_rounds.specs.declared.placing.Placed.{Placed}
 use Rattle.hub_rounds.specs.declared.placing.Placing.{Placing}
 use Rattle.hub_rounds.specs.declared.placing.Placing.TheVariants.{Unplaced, Round}
 use Rattle.hub_rounds.specs.declared.rounds.Rounds.{Rounds}
+use Rattle.hub_rounds.specs.declared.standing.Standing.{Standing}
+use Rattle.hub_rounds.proofs.AsNumbers.{as-many, profile-of, profiles-rivals, profiles-split, profiles-told, profiles-whole}
 
 -- What passes one test and then another.
 filter-both : {X : Type 0} (f g : X → Bool) (xs : List X) → filter f (filter g xs) ≡ filter (λ x. g x && f x) xs
@@ -118,26 +121,30 @@ used-members k (q ∷ ps) (suc i) p at is e = go (is_in_round k q.placing) (used
     go false rest f = rest f
 
 -- What is known of the profiles and of the rounds makes the answer.
-pub are-rounds : (S : Members) (es : List CheckFault) (r : Rounds) (ps : List Placed) (count : ℕ) → map (λ p. p.profile) ps ≡ S.profiles → ArePlaced es count ps → AreSplit es ps → AreUsed count ps
-    → r.rounds ≡ map (λ k. profiles_in_round k ps) (range_with_len 0 count) → r.left ≡ filter (λ p. is_outside count p.placing) ps
-    → ((k : ℕ) → k < count → IsSafeSet (record { profiles = profiles_in_round k ps; rules = S.rules })) → AreRivals es ps r.rivals → AreWhole es ps r.rivals → r.rules ≡ S.rules → AreRounds S es r
-are-rounds S es r ps count all told split used rounds left safe rivals whole rules =
+pub are-rounds : (S : Members) (es : List CheckFault) (r : Rounds) (ps : List Placed) (s : Standing) → map (λ p. p.profile) ps ≡ S.profiles → AreStanding (length S.profiles) es s → StandAsNumbers s.placings ps
+    → r.rounds ≡ map (λ k. profiles_in_round k ps) (range_with_len 0 s.rounds) → r.left ≡ filter (λ p. is_outside s.rounds p.placing) ps
+    → ((k : ℕ) → k < s.rounds → IsSafeSet (record { profiles = profiles_in_round k ps; rules = S.rules })) → r.rivals ≡ s.rivals → r.rules ≡ S.rules → AreRounds S es r
+are-rounds S es r ps s all are so rounds left safe rivals rules =
+    let count = s.rounds in
     let many : length r.rounds ≡ count = ap length rounds ∙ length-map-range_with_len (λ k. profiles_in_round k ps) 0 count in
+    let equal = as-many ps S.profiles s.placings all are.all in
+    let told = profiles-told es s.placings ps count equal so are.told in
     record {
       placed = ps;
       all = all;
       told = subst (λ (n : ℕ). ArePlaced es n ps) (sym many) told;
-      split = split;
+      split = profiles-split es s.placings ps equal so are.split;
       rounds = rounds ∙ ap (λ n. map (λ k. profiles_in_round k ps) (range_with_len 0 n)) (sym many);
       left = left ∙ left-outside es count ps told;
       used = λ k Ps at empty.
           let w = round-at count r.rounds (λ n. profiles_in_round n ps) k Ps rounds at in
-          let u = used k w.0 in
-          used-members k ps u.0 u.1 u.2 u.3 (sym w.1 ∙ empty);
+          let u = are.used k w.0 in
+          let v = profile-of s.placings ps u.0 u.1.0 equal so u.1.1 in
+          used-members k ps u.0 v.0 v.1 (ap (is_in_round k) v.2 ∙ u.1.2) (sym w.1 ∙ empty);
       safe = λ k Ps at.
           let w = round-at count r.rounds (λ n. profiles_in_round n ps) k Ps rounds at in
           subst (λ (Qs : List Parts). IsSafeSet (record { profiles = Qs; rules = S.rules })) (sym w.1) (safe k w.0);
-      rivals = rivals;
-      whole = whole;
+      rivals = subst (λ (ns : List ℕ). AreRivals es ps ns) (sym rivals) (profiles-rivals es s.placings ps s.rivals equal so are.rivals);
+      whole = subst (λ (ns : List ℕ). AreWhole es ps ns) (sym rivals) (profiles-whole es s.placings ps s.rivals equal so are.whole);
       rules = rules;
     }

@@ -1,4 +1,6 @@
+pub mod AsNumbers
 pub mod Cutting
+pub mod Numbers
 pub mod Reasons
 pub mod Rivals
 pub mod Unverified

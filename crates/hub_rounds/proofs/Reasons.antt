@@ -32,7 +32,7 @@ not-missed {X} p (y ∷ ys) x has is f = go (p y) refl (cons-cases y x ys has) f
     go true e h g rest = none-some y (sym g)
     go false e h g rest = ⊎_elim (λ here. true≢false (sym is ∙ (ap p (sym here) ∙ e))) (λ there. rest there g) h
 
-itself : (i : ℕ) → (i == i) ≡ true
+pub itself : (i : ℕ) → (i == i) ≡ true
 itself i = go (i == i) refl
   where
     go : (b : Bool) → (i == i) ≡ b → b ≡ true

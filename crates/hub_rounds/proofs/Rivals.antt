@@ -8,18 +8,18 @@ use Rattle.std.proofs.lemmas.Option.{none-some, slice_get_within}
 use Rattle.hub_text.specs.laws.List.{at-place, cons-cases, cons-here, cons-there, in-place, less-or-same, snoc-cases, snoc-new, snoc-old}
 use Rattle.hub_cert.specs.declared.fault.CheckFault.{CheckFault}
 use Rattle.hub_rounds.specs.Lines.{HasPair}
-use Rattle.hub_rounds.specs.Rounds.{AreSplit, ArePlaced, AreRivals, AreUsed, AreWhole, IsFreeFor, IsInRound, IsPlaced, MayJoin, OpensRounds, StandsFree, is_in_round}
-use Rattle.hub_rounds.specs.declared.placing.Placed.{Placed}
+use Rattle.hub_rounds.specs.Numbered.{AreAllRivals, AreNumbersPlaced, AreNumbersSplit, AreRivalNumbers, AreRoundsUsed, IsFreeFor, NumberIsInRound, NumberMayJoin, StandsFree}
+use Rattle.hub_rounds.specs.Rounds.{IsPlaced, OpensRounds, is_in_round}
 use Rattle.hub_rounds.specs.declared.placing.Placing.{Placing}
 use Rattle.hub_rounds.specs.declared.placing.Placing.TheVariants.{Unplaced, Round}
 
 -- No rivals, and one more.
-pub no-rivals : (es : List CheckFault) (ps : List Placed) → AreRivals es ps []
+pub no-rivals : (es : List CheckFault) (ps : List Placing) → AreRivalNumbers es ps []
 no-rivals es ps = record { placed = λ m i at. absurd (none-some i at); clash = λ m n i j l at_i at_j. absurd (none-some i at_i) }
 
-pub one-rival-more : (es : List CheckFault) (ps : List Placed) (ns : List ℕ) (k : ℕ) → AreRivals es ps ns → MayJoin es ps ns k → AreRivals es ps (ns ++ k ∷ [])
+pub one-rival-more : (es : List CheckFault) (ps : List Placing) (ns : List ℕ) (k : ℕ) → AreRivalNumbers es ps ns → NumberMayJoin es ps ns k → AreRivalNumbers es ps (ns ++ k ∷ [])
 one-rival-more es ps ns k are may = record {
-  placed = λ m i at. ⊎_elim (λ old. are.placed m i old) (λ new. subst (λ (x : ℕ). IsInRound ps x) new.1 may.placed) (snoc-cases ns k i m at);
+  placed = λ m i at. ⊎_elim (λ old. are.placed m i old) (λ new. subst (λ (x : ℕ). NumberIsInRound ps x) new.1 may.placed) (snoc-cases ns k i m at);
   clash = λ m n i j l at_i at_j. ⊎_elim
       (λ old_i. ⊎_elim (λ old_j. are.clash m n i j l old_i old_j) (λ new_j. subst (λ (x : ℕ). HasPair es i x) new_j.1 (may.clashes m i old_i)) (snoc-cases ns k j n at_j))
       (λ new_i. ⊎_elim
@@ -30,28 +30,28 @@ one-rival-more es ps ns k are may = record {
 }
 
 -- A profile is one of these, or it may not join them.
-abbrev pub HasJoined : List CheckFault → List Placed → List ℕ → ℕ → Type 0
-HasJoined es ps ns i = Contains ns i ⊎ (MayJoin es ps ns i → ⊥)
+abbrev pub HasJoined : List CheckFault → List Placing → List ℕ → ℕ → Type 0
+HasJoined es ps ns i = Contains ns i ⊎ (NumberMayJoin es ps ns i → ⊥)
 
 -- That holds of the profile that was added. It still holds of each of which it held before.
-added-joins : (es : List CheckFault) (ps : List Placed) (ns : List ℕ) (k : ℕ) → HasJoined es ps (ns ++ k ∷ []) k
+added-joins : (es : List CheckFault) (ps : List Placing) (ns : List ℕ) (k : ℕ) → HasJoined es ps (ns ++ k ∷ []) k
 added-joins es ps ns k = inl (in-place (ns ++ k ∷ []) (length ns) k (snoc-new ns k))
 
-joined-still : (es : List CheckFault) (ps : List Placed) (ns : List ℕ) (k i : ℕ) → HasJoined es ps ns i → HasJoined es ps (ns ++ k ∷ []) i
+joined-still : (es : List CheckFault) (ps : List Placing) (ns : List ℕ) (k i : ℕ) → HasJoined es ps ns i → HasJoined es ps (ns ++ k ∷ []) i
 joined-still es ps ns k i h = ⊎_elim
     (λ has. let w = at-place ns i has in inl (in-place (ns ++ k ∷ []) w.0 i (snoc-old ns k i w.0 w.2)))
     (λ no. inr (λ may. no (record { placed = may.placed; clashes = λ m j at. may.clashes m j (snoc-old ns k j m at) })))
     h
 
 -- Rivals, where each profile below a number has been asked. The next one joins them, or it may not.
-pub record AreAsked (es : List CheckFault) (ps : List Placed) (ns : List ℕ) (n : ℕ) : Type 0 where
-  pub rivals : AreRivals es ps ns
+pub record AreAsked (es : List CheckFault) (ps : List Placing) (ns : List ℕ) (n : ℕ) : Type 0 where
+  pub rivals : AreRivalNumbers es ps ns
   pub joined : (i : ℕ) → i < n → HasJoined es ps ns i
 
-pub none-asked : (es : List CheckFault) (ps : List Placed) (ns : List ℕ) → AreRivals es ps ns → AreAsked es ps ns 0
+pub none-asked : (es : List CheckFault) (ps : List Placing) (ns : List ℕ) → AreRivalNumbers es ps ns → AreAsked es ps ns 0
 none-asked es ps ns are = record { rivals = are; joined = λ i l. absurd (omega (arith, l)) }
 
-pub next-joins : (es : List CheckFault) (ps : List Placed) (ns : List ℕ) (n : ℕ) → AreAsked es ps ns n → MayJoin es ps ns n → AreAsked es ps (ns ++ n ∷ []) (n + 1)
+pub next-joins : (es : List CheckFault) (ps : List Placing) (ns : List ℕ) (n : ℕ) → AreAsked es ps ns n → NumberMayJoin es ps ns n → AreAsked es ps (ns ++ n ∷ []) (n + 1)
 next-joins es ps ns n are may = record {
   rivals = one-rival-more es ps ns n are.rivals may;
   joined = λ i l. ⊎_elim
@@ -60,14 +60,14 @@ next-joins es ps ns n are may = record {
       (less-or-same i n l);
 }
 
-pub next-may-not : (es : List CheckFault) (ps : List Placed) (ns : List ℕ) (n : ℕ) → AreAsked es ps ns n → (MayJoin es ps ns n → ⊥) → AreAsked es ps ns (n + 1)
+pub next-may-not : (es : List CheckFault) (ps : List Placing) (ns : List ℕ) (n : ℕ) → AreAsked es ps ns n → (NumberMayJoin es ps ns n → ⊥) → AreAsked es ps ns (n + 1)
 next-may-not es ps ns n are never = record {
   rivals = are.rivals;
   joined = λ i l. ⊎_elim (λ less. are.joined i less) (λ same. subst (λ (k : ℕ). HasJoined es ps ns k) (sym same) (inr never)) (less-or-same i n l);
 }
 
 -- Each profile has been asked.
-pub are-whole : (es : List CheckFault) (ps : List Placed) (ns : List ℕ) (n : ℕ) → length ps ≤ n → AreAsked es ps ns n → AreWhole es ps ns
+pub are-whole : (es : List CheckFault) (ps : List Placing) (ns : List ℕ) (n : ℕ) → length ps ≤ n → AreAsked es ps ns n → AreAllRivals es ps ns
 are-whole es ps ns n past are = λ i out may.
     let own = slice_get_within ps i may.placed.0 may.placed.1 in
     ⊎_elim (λ has. out has) (λ no. no may) (are.joined i (omega (arith, own, past)))
@@ -94,23 +94,23 @@ placed-still : (es : List CheckFault) (n m i : ℕ) (q : Placing) → n ≤ m �
 placed-still es n m i (Round k) l h = let below = h.0 in (omega (arith, l, below), h.1)
 placed-still es n m i (Unplaced why) l h = h
 
-pub none-placed : (es : List CheckFault) (n : ℕ) → ArePlaced es n []
+pub none-placed : (es : List CheckFault) (n : ℕ) → AreNumbersPlaced es n []
 none-placed es n = λ i p at. absurd (none-some p at)
 
-pub one-placed-more : (es : List CheckFault) (n m : ℕ) (ps : List Placed) (p : Placed) → n ≤ m → IsPlaced es m (length ps) p.placing → ArePlaced es n ps → ArePlaced es m (ps ++ p ∷ [])
+pub one-placed-more : (es : List CheckFault) (n m : ℕ) (ps : List Placing) (p : Placing) → n ≤ m → IsPlaced es m (length ps) p → AreNumbersPlaced es n ps → AreNumbersPlaced es m (ps ++ p ∷ [])
 one-placed-more es n m ps p l is are = λ i q at. ⊎_elim
-    (λ old. placed-still es n m i q.placing l (are i q old))
-    (λ new. subst (λ (r : Placed). IsPlaced es m i r.placing) new.1 (subst (λ (x : ℕ). IsPlaced es m x p.placing) (sym new.0) is))
+    (λ old. placed-still es n m i q l (are i q old))
+    (λ new. subst (λ (r : Placing). IsPlaced es m i r) new.1 (subst (λ (x : ℕ). IsPlaced es m x p) (sym new.0) is))
     (snoc-cases ps p q i at)
 
 -- Rounds that have a profile when there is one more profile, which opens the rounds that are new.
-pub none-used : (ps : List Placed) → AreUsed 0 ps
+pub none-used : (ps : List Placing) → AreRoundsUsed 0 ps
 none-used ps = λ k l. absurd (omega (arith, l))
 
-pub one-used-more : (n m : ℕ) (ps : List Placed) (p : Placed) → OpensRounds n m p.placing → AreUsed n ps → AreUsed m (ps ++ p ∷ [])
+pub one-used-more : (n m : ℕ) (ps : List Placing) (p : Placing) → OpensRounds n m p → AreRoundsUsed n ps → AreRoundsUsed m (ps ++ p ∷ [])
 one-used-more n m ps p opens are = λ k l. ⊎_elim
-    (λ old. let w = are k old in (w.0, w.1, snoc-old ps p w.1 w.0 w.2, w.3))
-    (λ new. (length ps, p, snoc-new ps p, new))
+    (λ old. let w = are k old in (w.0, (w.1.0, snoc-old ps p w.1.0 w.0 w.1.1, w.1.2)))
+    (λ new. (length ps, (p, snoc-new ps p, new)))
     (opens k l)
 
 -- No two of a round have a line, also with one more profile that stands in a round of those so far only if it is free for it.
@@ -118,15 +118,15 @@ round-below : (es : List CheckFault) (n i k : ℕ) (q : Placing) → IsPlaced es
 round-below es n i k (Round own) h is = let below = h.0 in grind (arith, nat_tests, below, is)
 round-below es n i k (Unplaced why) h is = absurd (true≢false (sym is))
 
-pub stands-free : (es : List CheckFault) (ps : List Placed) (count i own : ℕ) → (own < count → IsFreeFor es ps own i) → StandsFree es ps count i (Round own)
+pub stands-free : (es : List CheckFault) (ps : List Placing) (count i own : ℕ) → (own < count → IsFreeFor es ps own i) → StandsFree es ps count i (Round own)
 stands-free es ps count i own free = λ k l is.
     let same : own ≡ k = grind (arith, nat_tests, is) in
     subst (λ (x : ℕ). IsFreeFor es ps x i) same (free (subst (λ (x : ℕ). x < count) (sym same) l))
 
-pub none-split : (es : List CheckFault) → AreSplit es []
+pub none-split : (es : List CheckFault) → AreNumbersSplit es []
 none-split es = λ i j k l in_i in_j pair. absurd (none-some in_i.0 in_i.1)
 
-pub one-split-more : (es : List CheckFault) (n : ℕ) (ps : List Placed) (p : Placed) → ArePlaced es n ps → StandsFree es ps n (length ps) p.placing → AreSplit es ps → AreSplit es (ps ++ p ∷ [])
+pub one-split-more : (es : List CheckFault) (n : ℕ) (ps : List Placing) (p : Placing) → AreNumbersPlaced es n ps → StandsFree es ps n (length ps) p → AreNumbersSplit es ps → AreNumbersSplit es (ps ++ p ∷ [])
 one-split-more es n ps p told free are = λ i j k l in_i in_j pair. ⊎_elim
     (λ old_j. ⊎_elim
     (λ old_i. are i j k l (in_i.0, old_i, in_i.2) (in_j.0, old_j, in_j.2) pair)
@@ -134,7 +134,7 @@ one-split-more es n ps p told free are = λ i j k l in_i in_j pair. ⊎_elim
     (snoc-cases ps p in_i.0 i in_i.1))
     (λ new_j. ⊎_elim
     (λ old_i.
-    free k (round-below es n i k in_i.0.placing (told i in_i.0 old_i) in_i.2) (subst (λ (r : Placed). is_in_round k r.placing ≡ true) (sym new_j.1) in_j.2)
+    free k (round-below es n i k in_i.0 (told i in_i.0 old_i) in_i.2) (subst (λ (r : Placing). is_in_round k r ≡ true) (sym new_j.1) in_j.2)
     i (in_i.0, old_i, in_i.2) (subst (λ (x : ℕ). HasPair es i x) new_j.0 pair))
     (λ new_i. let last_i = new_i.0 in let last_j = new_j.0 in absurd (omega (arith, l, last_i, last_j)))
     (snoc-cases ps p in_i.0 i in_i.1))

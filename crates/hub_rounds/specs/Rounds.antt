@@ -43,23 +43,9 @@ ArePlaced es count ps =
 abbrev pub OpensRounds : ℕ → ℕ → Placing → Type 0
 OpensRounds before after q = (k : ℕ) → k < after → (k < before) ⊎ (is_in_round k q ≡ true)
 
--- Of so many rounds each has a profile.
-abbrev pub AreUsed : ℕ → List Placed → Type 0
-AreUsed count ps =
-    (k : ℕ) → k < count → (i : ℕ) × (p : Placed) × (slice_get ps i ≡ Some p)
-    × (is_in_round k p.placing ≡ true)
-
 -- The profile of that number stands in this round.
 abbrev pub StandsIn : List Placed → ℕ → ℕ → Type 0
 StandsIn ps k i = (p : Placed) × (slice_get ps i ≡ Some p) × (is_in_round k p.placing ≡ true)
-
--- In this round stands no profile with which that one has a line.
-abbrev pub IsFreeFor : List CheckFault → List Placed → ℕ → ℕ → Type 0
-IsFreeFor es ps k i = (j : ℕ) → StandsIn ps k j → HasPair es j i → ⊥
-
--- If that one stands in one of so many rounds, it is such a round.
-abbrev pub StandsFree : List CheckFault → List Placed → ℕ → ℕ → Placing → Type 0
-StandsFree es ps count i q = (k : ℕ) → k < count → is_in_round k q ≡ true → IsFreeFor es ps k i
 
 -- No two profiles of a round have a line, that they clash or that their goal is too large.
 abbrev pub AreSplit : List CheckFault → List Placed → Type 0

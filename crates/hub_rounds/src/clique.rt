@@ -3,11 +3,11 @@ ghost use Rattle.std.specs.Prelude.{◌≡◌, ◌↔◌, true, IfOk, OnOk};
 ghost use Rattle.std.specs.List.{list_any};
 ghost use Rattle.hub_rounds.specs.Lines as said;
 ghost use Rattle.hub_rounds.specs.Lines.{HasPair, names_pair};
-ghost use Rattle.hub_rounds.specs.Rounds.{AreRivals, AreWhole, IsInRound, MayJoin};
+ghost use Rattle.hub_rounds.specs.Numbered.{AreAllRivals, AreRivalNumbers, NumberIsInRound, NumberMayJoin};
 
 use crate::colouring::{Turn, turns_by_clashes};
 use crate::named::Named;
-use crate::placing::Placed;
+use crate::placing::Placing;
 use crate::subject::{Subject, subject_of};
 use hub_cert::CheckFault;
 use hub_text::Items;
@@ -20,11 +20,11 @@ pub(crate) fn rivals_of(
     alloc: Global,
     lines: &[CheckFault],
     named: &Named,
-    placed: &[Placed],
+    placed: &[Placing],
     given: &[usize],
 ) -> Result<Items<usize>, AllocError>
-    ensures rivals { IfOk result (AreRivals lines.now placed.now) }
-    ensures whole { IfOk result (AreWhole lines.now placed.now) }
+    ensures rivals { IfOk result (AreRivalNumbers lines.now placed.now) }
+    ensures whole { IfOk result (AreAllRivals lines.now placed.now) }
 {
     let mut rivals = rivals_by_turns(alloc, lines, named, placed)?;
     let others = rivals_among(alloc, lines, named, placed, given)?;
@@ -40,9 +40,9 @@ fn rivals_by_turns(
     alloc: Global,
     lines: &[CheckFault],
     named: &Named,
-    placed: &[Placed],
+    placed: &[Placing],
 ) -> Result<Vec<usize>, AllocError>
-    ensures { IfOk result (λ v. AreRivals lines.now placed.now v.items) }
+    ensures { IfOk result (λ v. AreRivalNumbers lines.now placed.now v.items) }
 {
     let turns = turns_by_clashes(alloc, named)?;
     let mut longest = Vec::new(alloc);
@@ -60,10 +60,10 @@ fn rivals_among(
     alloc: Global,
     lines: &[CheckFault],
     named: &Named,
-    placed: &[Placed],
+    placed: &[Placing],
     given: &[usize],
 ) -> Result<Vec<usize>, AllocError>
-    ensures { IfOk result (λ v. AreRivals lines.now placed.now v.items) }
+    ensures { IfOk result (λ v. AreRivalNumbers lines.now placed.now v.items) }
 {
     let mut rivals = Vec::new(alloc);
     for profile in given {
@@ -77,11 +77,11 @@ fn rivals_from(
     alloc: Global,
     lines: &[CheckFault],
     named: &Named,
-    placed: &[Placed],
+    placed: &[Placing],
     first: usize,
     turns: &[Turn],
 ) -> Result<Vec<usize>, AllocError>
-    ensures rivals { IfOk result (λ v. AreRivals lines.now placed.now v.items) }
+    ensures rivals { IfOk result (λ v. AreRivalNumbers lines.now placed.now v.items) }
 {
     let mut rivals = Vec::new(alloc);
     join(&mut rivals, lines, named, placed, first)?;
@@ -96,11 +96,11 @@ fn join_each(
     rivals: &mut Vec<usize>,
     lines: &[CheckFault],
     named: &Named,
-    placed: &[Placed],
+    placed: &[Placing],
 ) -> Result<(), AllocError>
-    requires { AreRivals lines.now placed.now rivals.old.items }
-    ensures rivals { OnOk result (AreRivals lines.now placed.now rivals.new.items) }
-    ensures whole { OnOk result (AreWhole lines.now placed.now rivals.new.items) }
+    requires { AreRivalNumbers lines.now placed.now rivals.old.items }
+    ensures rivals { OnOk result (AreRivalNumbers lines.now placed.now rivals.new.items) }
+    ensures whole { OnOk result (AreAllRivals lines.now placed.now rivals.new.items) }
 {
     for profile in 0..placed.len() {
         if may_join_surely(rivals.as_slice(), lines, named, placed, profile) {
@@ -115,10 +115,10 @@ fn may_join_surely(
     rivals: &[usize],
     lines: &[CheckFault],
     named: &Named,
-    placed: &[Placed],
+    placed: &[Placing],
     profile: usize,
 ) -> bool
-    ensures { result ≡ true ↔ MayJoin lines.now placed.now rivals.now profile }
+    ensures { result ≡ true ↔ NumberMayJoin lines.now placed.now rivals.now profile }
 {
     is_in_round(placed, profile)
         && rivals
@@ -148,11 +148,11 @@ fn join(
     rivals: &mut Vec<usize>,
     lines: &[CheckFault],
     named: &Named,
-    placed: &[Placed],
+    placed: &[Placing],
     profile: usize,
 ) -> Result<(), AllocError>
-    requires { AreRivals lines.now placed.now rivals.old.items }
-    ensures { OnOk result (AreRivals lines.now placed.now rivals.new.items) }
+    requires { AreRivalNumbers lines.now placed.now rivals.old.items }
+    ensures { OnOk result (AreRivalNumbers lines.now placed.now rivals.new.items) }
 {
     if may_join(rivals.as_slice(), lines, named, placed, profile) {
         rivals.push(profile)?;
@@ -165,10 +165,10 @@ fn may_join(
     rivals: &[usize],
     lines: &[CheckFault],
     named: &Named,
-    placed: &[Placed],
+    placed: &[Placing],
     profile: usize,
 ) -> bool
-    ensures { result ≡ true → MayJoin lines.now placed.now rivals.now profile }
+    ensures { result ≡ true → NumberMayJoin lines.now placed.now rivals.now profile }
 {
     is_in_round(placed, profile)
         && rivals
@@ -177,11 +177,11 @@ fn may_join(
 }
 
 /// Returns whether the profile of that number is in a round.
-fn is_in_round(placed: &[Placed], profile: usize) -> bool
-    ensures { result ≡ true ↔ IsInRound placed.now profile }
+fn is_in_round(placed: &[Placing], profile: usize) -> bool
+    ensures { result ≡ true ↔ NumberIsInRound placed.now profile }
 {
     match placed.get(profile) {
-        Some(own) => own.placing.is_in_a_round(),
+        Some(own) => own.is_in_a_round(),
         None => false,
     }
 }

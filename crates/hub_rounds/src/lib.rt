@@ -4,6 +4,8 @@
 //! - [`rounds_of`] cuts the set into [`Rounds`]. The profiles of a round are a safe set, which `hub_search::check` has verified.
 //!   A profile that breaks a rule by itself is in no round. [`rounds_by_lines`] does the same for profiles that are no set,
 //!   by the lines that `hub_apart` finds.
+//! - [`rounds_of_lines`] makes the same rounds of numbers, by lines alone: [`NumberedRounds`]. Nothing is checked, and how many
+//!   profiles a round has isn't limited.
 //!
 //! ```rust
 //! let clashes = clashes_of(alloc, &set)?;
@@ -24,12 +26,12 @@
 //! colours, fewer colours are searched for (Brélaz's DSATUR, by branch and bound). Both searches find the best, unless they
 //! take more steps than they may.
 //!
-//! A colouring is a guess. What is stated of rounds rests on `check`, and on the lines: each profile that is left out, and each
-//! two profiles of the lower bound, have a line that is looked at. A profile of which a line says that it clashes in the round of
-//! its colour gets a round of its own.
+//! A colouring is a guess. What is stated of rounds rests on `check`, and on the lines; of rounds of numbers, on the lines alone.
+//! Each profile that is left out, and each two profiles of the lower bound, have a line that is looked at. A profile of which a
+//! line says that it clashes in the round of its colour gets a round of its own.
 //!
 //! The contracts use the words of `specs/Lines` (what a line says of which profiles) and `specs/Rounds` (where profiles stand),
-//! and hub_search's `specs/Faults` (the lines of a set).
+//! `specs/Numbered` (where their numbers stand), and hub_search's `specs/Faults` (the lines of a set).
 //!
 //! Only functions that return a `Result` allocate.
 //!
@@ -41,6 +43,9 @@
 //!   says why; each other one stands in exactly one round; no two profiles of a round have a line; no round is empty; the profiles
 //!   of a round and the rules are a safe set; each two rivals have a line, and no other profile of a round has lines with all of
 //!   them.
+//! - `rounds_of_lines` returns `AreRoundsOfLines`: each number stands in exactly one round, or is left out with the reason of a
+//!   line about it alone; no line is about two numbers of a round, or about one of them alone; no round is empty, and none has a
+//!   number twice; each two rivals have a line, and no other number of a round has lines with all of them.
 //! - `NotVerified` comes only with a round that the check refuses, and not where memory is out.
 //!
 //! # What is not
@@ -56,13 +61,16 @@ mod fault;
 mod graph;
 mod largest;
 mod named;
+mod numbered;
 mod painting;
 mod placing;
 mod rounds;
+mod standing;
 mod subject;
 
 pub use clashes::{Clashes, clashes_of};
 pub use fault::RoundsFault;
+pub use numbered::{LeftOut, NumberedRounds, rounds_of_lines};
 pub use placing::{Obstacle, Placed, Placing};
 pub use rounds::{Rounds, rounds_by_lines, rounds_of};
 pub use subject::{Subject, subject_of};

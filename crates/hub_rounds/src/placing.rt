@@ -1,10 +1,11 @@
 //! Where profiles stand.
-ghost use Rattle.std.specs.Prelude.{◌≡◌, ◌↔◌, ◌<◌, ◌≤◌, ℕ, None, true, false, length, map, option_map, IfOk, IfSome};
+ghost use Rattle.std.specs.Prelude.{◌≡◌, ◌↔◌, ◌<◌, ◌≤◌, ℕ, None, true, false, length, option_map, IfOk, IfSome};
 ghost use Rattle.std.specs.List.{find};
 ghost use Rattle.hub_rounds.specs.Lines as said;
 ghost use Rattle.hub_rounds.specs.Lines.{HasNoOwnLine, HasOwnLine, IsFirstReason};
-ghost use Rattle.hub_rounds.specs.Rounds.{AreSplit, ArePlaced, AreUsed, IsFreeFor, IsPlaced, OpensRounds};
-ghost use Rattle.hub_rounds.specs.Rounds.{StandsFree, StandsIn, is_in_round, is_in_some};
+ghost use Rattle.hub_rounds.specs.Numbered.{AreNumbersPlaced, AreNumbersSplit, AreRoundsUsed, IsFreeFor};
+ghost use Rattle.hub_rounds.specs.Numbered.{NumberStandsIn, StandsFree};
+ghost use Rattle.hub_rounds.specs.Rounds.{IsPlaced, OpensRounds, is_in_round, is_in_some};
 ghost use Rattle.hub_rounds.specs.declared.placing.Placing.TheVariants.{Round};
 
 use crate::subject::{Subject, subject_of};
@@ -61,34 +62,36 @@ impl Placing {
     }
 }
 
-/// Says of each profile where it stands, and how many rounds there are. A profile with a line of its own is in no round. The
-/// rounds are those of the colours, in the order of their first profiles.
+/// Says of each number below the count where it stands, and how many rounds there are. A number with a line of its own is in no
+/// round. The rounds are those of the colours, in the order of their first numbers.
 pub(crate) fn place_each(
     alloc: Global,
     lines: &[CheckFault],
     colours: &[Option<usize>],
-    profiles: Vec<Profile>,
-) -> Result<(Vec<Placed>, usize), AllocError>
-    ensures all { IfOk result (λ r. map (λ p. p.profile) r.0.items ≡ profiles.items) }
-    ensures told { IfOk result (λ r. ArePlaced lines.now r.1 r.0.items) }
-    ensures split { IfOk result (λ r. AreSplit lines.now r.0.items) }
-    ensures used { IfOk result (λ r. AreUsed r.1 r.0.items) }
+    count: usize,
+) -> Result<(Vec<Placing>, usize), AllocError>
+    ensures all { IfOk result (λ r. length r.0.items ≡ count) }
+    ensures told { IfOk result (λ r. AreNumbersPlaced lines.now r.1 r.0.items) }
+    ensures split { IfOk result (λ r. AreNumbersSplit lines.now r.0.items) }
+    ensures used { IfOk result (λ r. AreRoundsUsed r.1 r.0.items) }
 {
-    let mut placed = Vec::with_capacity(alloc, profiles.len())?;
+    let mut placings = Vec::with_capacity(alloc, count)?;
     let mut seen = Vec::new(alloc);
-    for profile in profiles {
-        let placing = placing_of(&mut seen, lines, colours, placed.as_slice())?;
-        placed.push(Placed { profile, placing })?;
+    for number in 0..count {
+        let colour = colour_at(colours, number);
+        let placing = placing_of(&mut seen, lines, colour, placings.as_slice())?;
+        placings.push(placing)?;
     }
-    Ok((placed, seen.len()))
+    Ok((placings, seen.len()))
 }
 
-/// Says where the next profile stands, after those that are placed, where these are the colours of the rounds so far.
+/// Says where the next profile stands, which has this colour, after those that are placed. These are the colours of the rounds so
+/// far.
 fn placing_of(
     seen: &mut Vec<usize>,
     lines: &[CheckFault],
-    colours: &[Option<usize>],
-    placed: &[Placed],
+    colour: usize,
+    placed: &[Placing],
 ) -> Result<Placing, AllocError>
     ensures told { IfOk result (IsPlaced lines.now (length seen.new.items) (length placed.now)) }
     ensures grows { length seen.old.items ≤ length seen.new.items }
@@ -100,7 +103,7 @@ fn placing_of(
     match own_reason(lines, number) {
         Some(reason) => Ok(Placing::Unplaced(reason)),
         None => {
-            let round = round_of(seen, lines, placed, colour_at(colours, number))?;
+            let round = round_of(seen, lines, placed, colour)?;
             Ok(Placing::Round(round))
         }
     }
@@ -185,7 +188,7 @@ fn reason_of(line: &CheckFault, number: usize) -> Option<Obstacle>
 fn round_of(
     seen: &mut Vec<usize>,
     lines: &[CheckFault],
-    placed: &[Placed],
+    placed: &[Placing],
     colour: usize,
 ) -> Result<usize, AllocError>
     ensures below { IfOk result (λ k. k < length seen.new.items) }
@@ -206,7 +209,7 @@ fn round_of(
 }
 
 /// Returns whether no profile stands in the round with which that one has a line. All lines are looked at.
-fn is_free_for(lines: &[CheckFault], placed: &[Placed], round: usize, number: usize) -> bool
+fn is_free_for(lines: &[CheckFault], placed: &[Placing], round: usize, number: usize) -> bool
     ensures { result ≡ true → IsFreeFor lines.now placed.now round number }
 {
     for line in lines {
@@ -218,8 +221,8 @@ fn is_free_for(lines: &[CheckFault], placed: &[Placed], round: usize, number: us
 }
 
 /// Returns whether the line is about that profile and one that stands in the round.
-fn names_one_of(line: &CheckFault, placed: &[Placed], round: usize, number: usize) -> bool
-    ensures { result ≡ false → (j : ℕ) → StandsIn placed.now round j
+fn names_one_of(line: &CheckFault, placed: &[Placing], round: usize, number: usize) -> bool
+    ensures { result ≡ false → (j : ℕ) → NumberStandsIn placed.now round j
         → said.names_pair (said.subject_of line.now) j number ≡ true → ⊥ }
 {
     match other_of(line, number) {
@@ -241,11 +244,11 @@ fn other_of(line: &CheckFault, number: usize) -> Option<usize>
 }
 
 /// Returns whether the profile of that number stands in the round.
-fn stands_in(placed: &[Placed], round: usize, number: usize) -> bool
-    ensures { result ≡ true ↔ StandsIn placed.now round number }
+fn stands_in(placed: &[Placing], round: usize, number: usize) -> bool
+    ensures { result ≡ true ↔ NumberStandsIn placed.now round number }
 {
     match placed.get(number) {
-        Some(own) => own.placing.is_round(round),
+        Some(own) => own.is_round(round),
         None => false,
     }
 }

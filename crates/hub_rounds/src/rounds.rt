@@ -6,13 +6,9 @@ ghost use Rattle.hub_rounds.specs.Unverified as unverified;
 ghost use Rattle.hub_rounds.specs.Unverified.{IsFaultBelow, IsFaultOf, IsRoundsFault, RefusesRound};
 
 use crate::clashes::Clashes;
-use crate::clique::rivals_of;
-use crate::colouring::colours_of;
 use crate::fault::RoundsFault;
-use crate::graph::Graph;
-use crate::largest::largest_clique;
-use crate::named::Named;
-use crate::placing::{Placed, place_each};
+use crate::placing::Placed;
+use crate::standing::{Standing, placed_so, standing_of};
 use hub_cert::{CheckFault, ProfileSet};
 use hub_profile::{Profile, Rules};
 use hub_search::check;
@@ -64,13 +60,12 @@ pub fn rounds_by_lines(
     ensures refused { IfErr result
         (IsRoundsFault (record { profiles = profiles; rules = rules }) lines.now) }
 {
-    let named = Named::new(alloc, profiles.len(), lines)?;
-    let graph = Graph::new(alloc, &named)?;
-    let clique = largest_clique(alloc, graph.as_ref())?;
-    let colours = colours_of(alloc, &named, graph.as_ref(), clique.len())?;
-    let profiles = profiles.into_vec();
-    let (placed, count) = place_each(alloc, lines, colours.as_slice(), profiles)?;
-    let rivals = rivals_of(alloc, lines, &named, placed.as_slice(), clique.as_slice())?;
+    let Standing {
+        placings,
+        rounds: count,
+        rivals,
+    } = standing_of(alloc, profiles.len(), lines)?;
+    let placed = placed_so(alloc, profiles.into_vec(), placings.as_slice())?;
     let (rounds, left, rules) = cut(alloc, placed, count, rules)?;
     Ok(Rounds {
         rounds,

@@ -15,8 +15,8 @@ use Rattle.hub_rounds.specs.Unverified.{HasRefusedRound, IsRefusedRound, Refuses
 use Rattle.hub_rounds.specs.declared.fault.RoundsFault.TheVariants.{NotVerified}
 use Rattle.hub_rounds.specs.declared.rounds.Rounds.{Rounds}
 
--- The profiles of a round, by its number.
-pub round-at : (count : ℕ) (rs : List (List Parts)) (f : ℕ → List Parts) (k : ℕ) (Ps : List Parts)
+-- What a round has, by its number.
+pub round-at : {X : Type 0} (count : ℕ) (rs : List X) (f : ℕ → X) (k : ℕ) (Ps : X)
     → rs ≡ map f (range_with_len 0 count) → slice_get rs k ≡ Some Ps → (k < count) × (Ps ≡ f k)
 round-at count rs f k Ps is at =
     let many = ap length is ∙ length-map-range_with_len f 0 count in

@@ -1,6 +1,6 @@
 use Rattle.std.proofs.Common.{List, ℕ, Vec, Global, ◌+◌, ◌∙◌, ap, subst, sym}
 use Rattle.std.proofs.lemmas.Bool.{true≢false}
-use Rattle.hub_rounds.specs.Rounds.{MayJoin}
+use Rattle.hub_rounds.specs.Numbered.{NumberMayJoin}
 use Rattle.hub_rounds.proofs.Rivals.{AreAsked, are-whole, next-joins, next-may-not, none-asked}
 use Rattle.hub_rounds.proofs.clique.join_each.Goals as goal
 use Rattle.hub_rounds.proofs.clique.join_each.Goals.{then-may_join_surely+in_ok-push, else-may_join_surely}
@@ -16,14 +16,14 @@ loop-profile-preserved c =
     let k = c.loop-profile.profile in
     let are = c.loop-profile.invariant in
     let asked = λ (ms : List ℕ). AreAsked es ps ms (k + 1) in
-    let may = λ (ms : List ℕ). MayJoin es ps ms k in
+    let may = λ (ms : List ℕ). NumberMayJoin es ps ms k in
     let items = λ (v : Vec ℕ Global). v.items in
     elim c.if-may_join_surely.branch [
       | then-may_join_surely+in_ok-push w ↦
           let own = subst may c.as_slice.ensures.value (c.may_join_surely.ensures.0 w.if-may_join_surely.true) in
           subst asked (sym (ap items w.rivals-is ∙ w.in_ok-push.ensures.items)) (next-joins es ps ns k are own)
       | else-may_join_surely w ↦
-          let never = λ (own : MayJoin es ps ns k). true≢false (sym (c.may_join_surely.ensures.1 (subst may (sym c.as_slice.ensures.value) own)) ∙ w.if-may_join_surely.false) in
+          let never = λ (own : NumberMayJoin es ps ns k). true≢false (sym (c.may_join_surely.ensures.1 (subst may (sym c.as_slice.ensures.value) own)) ∙ w.if-may_join_surely.false) in
           subst asked (sym (ap items w.rivals-is)) (next-may-not es ps ns k are never)
     ]
 

@@ -3,7 +3,7 @@ use Rattle.std.proofs.lemmas.Option.{slice_get-get_or, slice_get_within}
 use Rattle.hub_text.specs.laws.List.{also-here, at-place}
 use Rattle.hub_cert.specs.declared.fault.CheckFault.{CheckFault}
 use Rattle.hub_rounds.specs.Lines.{names_pair, subject_of}
-use Rattle.hub_rounds.specs.Rounds.{StandsIn}
+use Rattle.hub_rounds.specs.Numbered.{NumberStandsIn}
 use Rattle.hub_rounds.proofs.placing.is_free_for.Goals as goal
 
 pub loop-line-init : goal.loop-line-init
@@ -14,7 +14,7 @@ loop-line-preserved c =
     let es = c.args.lines.now in
     let i = c.loop-line.line-index in
     let e = c.line-item.result in
-    also-here (λ (x : CheckFault). (j : ℕ) → StandsIn c.args.placed.now c.args.round j → names_pair (subject_of x) j c.args.number ≡ true → ⊥) es i e
+    also-here (λ (x : CheckFault). (j : ℕ) → NumberStandsIn c.args.placed.now c.args.round j → names_pair (subject_of x) j c.args.number ≡ true → ⊥) es i e
     (slice_get-get_or es i e c.loop-line-test.true ∙ ap Some (sym c.line-item.is))
     (c.names_one_of.ensures c.if-names_one_of.false)
     c.loop-line.invariant

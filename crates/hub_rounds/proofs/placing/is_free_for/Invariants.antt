@@ -1,9 +1,9 @@
 use Rattle.std.proofs.Common.{◌≡◌, ◌<◌, ℕ, true, Some, slice_get}
 use Rattle.hub_cert.specs.declared.fault.CheckFault.{CheckFault}
 use Rattle.hub_rounds.specs.Lines.{names_pair, subject_of}
-use Rattle.hub_rounds.specs.Rounds.{StandsIn}
+use Rattle.hub_rounds.specs.Numbered.{NumberStandsIn}
 use Rattle.hub_rounds.proofs.placing.is_free_for.Given as goal
 
 abbrev pub invariant-loop-line : goal.invariant-loop-line
 invariant-loop-line l = (m : ℕ) (e : CheckFault) → m < l.line-index → slice_get l.lines m ≡ Some e
-    → (j : ℕ) → StandsIn l.placed l.round j → names_pair (subject_of e) j l.number ≡ true → ⊥
+    → (j : ℕ) → NumberStandsIn l.placed l.round j → names_pair (subject_of e) j l.number ≡ true → ⊥

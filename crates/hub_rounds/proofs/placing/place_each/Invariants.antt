@@ -1,11 +1,11 @@
-use Rattle.std.proofs.Common.{◌≡◌, length, map}
-use Rattle.hub_rounds.specs.Rounds.{AreSplit, ArePlaced, AreUsed}
+use Rattle.std.proofs.Common.{◌≡◌, length}
+use Rattle.hub_rounds.specs.Numbered.{AreNumbersPlaced, AreNumbersSplit, AreRoundsUsed}
 use Rattle.hub_rounds.proofs.placing.place_each.Given as goal
 
-abbrev pub invariant-loop-profile : goal.invariant-loop-profile
-invariant-loop-profile l = record {
-  all : map (λ p. p.profile) l.placed.items ≡ l.yielded;
-  told : ArePlaced l.lines (length l.seen.items) l.placed.items;
-  split : AreSplit l.lines l.placed.items;
-  used : AreUsed (length l.seen.items) l.placed.items;
+abbrev pub invariant-loop-number : goal.invariant-loop-number
+invariant-loop-number l = record {
+  all : length l.placings.items ≡ l.number;
+  told : AreNumbersPlaced l.lines (length l.seen.items) l.placings.items;
+  split : AreNumbersSplit l.lines l.placings.items;
+  used : AreRoundsUsed (length l.seen.items) l.placings.items;
 }

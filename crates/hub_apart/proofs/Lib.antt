@@ -1,3 +1,4 @@
+pub mod ByWriter
 pub mod InUnison
 pub mod Items
 pub mod Joining
@@ -9,4 +10,5 @@ pub mod Numbers
 pub mod Readings
 pub mod Taken
 pub mod Tops
+pub mod UnsafeParts
 pub mod WithoutLines

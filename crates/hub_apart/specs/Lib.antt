@@ -1,5 +1,7 @@
 pub mod Apart
 pub mod ApartLines
+pub mod Ordered
 pub mod UnisonLines
+pub mod UnsafeParts
 pub mod WithoutLines
 pub mod examples

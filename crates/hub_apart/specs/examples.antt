@@ -1,2 +1,3 @@
 pub mod Apart
 pub mod InUnison
+pub mod Ordered

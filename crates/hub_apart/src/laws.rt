@@ -1,5 +1,5 @@
 //! What follows from lines in Unison: each law is the contract of an empty function.
-ghost use Rattle.std.specs.Prelude.{◌≡◌, ◌≢◌, ℕ, List, [], ◌∷◌, false, slice_get, Some};
+ghost use Rattle.std.specs.Prelude.{◌≡◌, ◌≢◌, ℕ, List, [], ◌∷◌, Contains, false, true, slice_get, Some};
 ghost use Rattle.hub_profile.specs.Parts.{Parts};
 ghost use Rattle.hub_profile.specs.declared.rule.Rule.{Rule};
 ghost use Rattle.hub_reach.specs.Safe.{share_archive};
@@ -13,7 +13,8 @@ ghost use Rattle.hub_unison.specs.Shared.{ShareNoArchive};
 ghost use Rattle.hub_unison.specs.UnisonReach.{IsSafeInUnison};
 ghost use Rattle.hub_unison.specs.Written.{Written};
 ghost use Rattle.hub_apart.specs.Apart.{any_two, have_nested};
-ghost use Rattle.hub_apart.specs.UnisonLines.{AreValid};
+ghost use Rattle.hub_apart.specs.UnisonLines.{AreLinesInUnison, AreValid};
+ghost use Rattle.hub_apart.specs.UnsafeParts.{HasUnsafePart, shows_path};
 ghost use Rattle.hub_apart.specs.WithoutLines.{AreSome, HaveLinesInUnison, HaveNoOwnLine, HaveNoPair, NeverClash};
 
 use hub_cert::laws::certificates_make_a_set_safe;
@@ -68,6 +69,16 @@ pub fn profiles_and_rules_without_lines_are_safe_in_unison()
 {
     a_set_is_safe_anywhere();
     profiles_without_lines_are_safe_in_unison();
+}
+
+/// A line in Unison that shows a path shows that a part of the profiles isn't safe: two of them by their cautious readings, or one
+/// with the rules by its reading beside them.
+pub fn lines_show_unsafe_parts()
+    ensures { (Ps : List Parts) (Rs : List Rule) (es : List CheckFault) (e : CheckFault)
+        → AreLinesInUnison Ps Rs es → Contains es e → shows_path e ≡ true
+        → HasUnsafePart Ps Rs }
+{
+    faults_say_what_is_unsafe();
 }
 
 /// If no two profiles have nested roots ([`crate::has_nested`]), no two different roots of them all are nested.

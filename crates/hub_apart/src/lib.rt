@@ -11,6 +11,7 @@
 //!   there are isn't limited, and each part has an alphabet of its own.
 //! - [`Apart::with_pairs`] adds a line for each two that may not run at the same time for another reason, as an archive of Unison
 //!   that they share.
+//! - [`Apart::by_writer`] puts the lines in the order of a set's: clashes by who writes, then what is about one profile alone.
 //!
 //! ```rust
 //! if !are_put_apart(profiles.as_slice(), rules.as_slice()) {
@@ -33,7 +34,8 @@
 //! Unison surely reads as hubsync does. With the rule each is searched alone, as if it ignored nothing.
 //!
 //! The contracts use the words of `specs/Apart` (which profiles have nested roots), `specs/ApartLines` (which lines they have),
-//! `specs/UnisonLines` (which lines they have in Unison) and `specs/WithoutLines` (what it says that a line isn't there).
+//! `specs/UnisonLines` (which lines they have in Unison), `specs/WithoutLines` (what it says that a line isn't there),
+//! `specs/UnsafeParts` (what it says that a line shows a path) and `specs/Ordered` (the order of lines).
 //! Only functions that return a `Result` allocate.
 //!
 //! # What is proved
@@ -48,7 +50,11 @@
 //!   roots. A profile that no line is about alone keeps all rules in Unison (law `profiles_without_lines_are_safe_in_unison`). So
 //!   the profiles of a round are safe in Unison (`rounds_without_lines_are_safe_in_unison`), and so are all if there is no line
 //!   (`profiles_and_rules_without_lines_are_safe_in_unison`).
+//! - A line in Unison with a path shows two profiles by their cautious readings, or one with the rules by its reading beside them,
+//!   that make no safe set (law `lines_show_unsafe_parts`).
 //! - `with_pairs` appends exactly the lines of these pairs.
+//! - `by_writer` returns the same lines, by the number of who writes, and then those about no two profiles. Lines of one writer
+//!   keep their order, and so do those.
 //!
 //! # What is not
 //!
@@ -61,6 +67,7 @@ mod apart;
 mod beside;
 pub mod laws;
 mod lines;
+mod ordered;
 mod pairs;
 mod searched;
 mod unison;

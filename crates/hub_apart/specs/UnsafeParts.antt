@@ -1,0 +1,23 @@
+-- What a line in Unison says that shows a path.
+use Rattle.std.specs.Prelude.{◌⊎◌, Bool, true, false, List, []}
+use Rattle.hub_profile.specs.Parts.{Parts}
+use Rattle.hub_profile.specs.declared.rule.Rule.{Rule}
+use Rattle.hub_cert.specs.Set.{IsSafeSet, Members}
+use Rattle.hub_cert.specs.declared.fault.CheckFault.{CheckFault}
+use Rattle.hub_cert.specs.declared.fault.CheckFault.TheVariants as fault
+use Rattle.hub_apart.specs.ApartLines.{IsSetOfOne, IsSetOfTwo, set_of}
+use Rattle.hub_apart.specs.UnisonLines.{beside, cautious}
+
+-- The line shows a path: one at which two profiles clash, or at which a profile breaks a rule.
+abbrev pub shows_path : CheckFault → Bool
+shows_path (fault.Overlap w o place held path) = true
+shows_path (fault.Breach p r path) = true
+shows_path _ = false
+
+-- Two of the profiles by their cautious readings, or one with the rules by its reading beside them,
+-- make a set that isn't safe.
+abbrev pub HasUnsafePart : List Parts → List Rule → Type 0
+HasUnsafePart Ps Rs =
+    (T : Members)
+    × (IsSetOfTwo (set_of (cautious Ps) []) T ⊎ IsSetOfOne (set_of (beside Rs Ps) Rs) T)
+    × (IsSafeSet T → ⊥)

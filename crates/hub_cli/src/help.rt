@@ -196,7 +196,7 @@ what Unison 2.52 may do by the profiles, not about hubsync's own reading of them
 What is safe then is safe in Unison, under what standard error says is assumed.
 An overlap or a breach may come of this reading alone: compare with the answer
 without it. 'import' and 'plan' read the profiles in the same way. 'import' writes
-what it read as a bundle: without '--unison' it has the same answers.
+such readings as a bundle, as for 'certify'.
 
 Exit status:
   0  safe and no job stopped, verified, certificates, reached or not reached;

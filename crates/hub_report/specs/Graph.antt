@@ -1,4 +1,4 @@
--- The graph of a set for Graphviz: its profiles, their roots, and what clashes.
+-- The graph of profiles for Graphviz: the profiles, their roots, and what clashes.
 use Rattle.std.specs.Prelude.{ℕ, ◌+◌, ◌==◌, Bool, false, ◌||◌, if◌then◌else◌}
 use Rattle.std.specs.Prelude.{List, [], ◌∷◌, ◌++◌, Option, None, Some}
 use Rattle.std.specs.Prelude.{codes, chars, encode_utf8, encode_utf8_all, map}
@@ -11,7 +11,6 @@ use Rattle.hub_path.specs.Path.{Path}
 use Rattle.hub_path.specs.declared.side.Side.{Side}
 use Rattle.hub_path.specs.declared.side.Side.TheVariants.{Left, Right}
 use Rattle.hub_profile.specs.Parts.{Parts, at_side}
-use Rattle.hub_cert.specs.Set.{Members}
 use Rattle.hub_cert.specs.declared.fault.CheckFault.{CheckFault}
 use Rattle.hub_cert.specs.declared.fault.CheckFault.TheVariants as fault
 use Rattle.hub_rounds.specs.Lines.{subject_of}
@@ -20,7 +19,7 @@ use Rattle.hub_rounds.specs.declared.subject.Subject.{Subject}
 use Rattle.hub_rounds.specs.declared.subject.Subject.TheVariants as subject
 use Rattle.hub_report.specs.Pairs.{are_joined}
 use Rattle.hub_report.specs.Refusal.{joined, name_at, path_text, text_of_root}
-use Rattle.hub_report.specs.Undecided.{undecided_in}
+use Rattle.hub_report.specs.Undecided.{clashing_pair}
 use Rattle.hub_report.specs.declared.pair.Pair.{Pair}
 
 -- A backslash or a quote.
@@ -148,7 +147,7 @@ abbrev pub overlap_edge : List Parts → Pair → Path → List ℕ
 overlap_edge Ps p path =
     red_edge (name_shown Ps p.writer) (name_shown Ps p.other) (escaped (path_text path))
 
--- The dashed line of two profiles of which it is too large to decide whether they clash.
+-- The dashed line of two profiles of which it isn't decided whether they clash.
 abbrev pub undecided_line : List Parts → Pair → List ℕ
 undecided_line Ps p = dashed_edge (name_shown Ps p.writer) (name_shown Ps p.other)
 
@@ -211,24 +210,30 @@ abbrev pub dashed_line : List Parts → List Pair → Option Pair → List ℕ
 dashed_line Ps ps None = []
 dashed_line Ps ps (Some p) = unless_joined ps p (undecided_line Ps p)
 
+-- The two profiles of a fault that doesn't show whether they clash: that is too large to decide, or
+-- their roots are nested.
+abbrev pub dashed_in : CheckFault → Option Pair
+dashed_in (fault.TooLarge g) = clashing_pair g
+dashed_in (fault.Missing g) = clashing_pair g
+dashed_in _ = None
+
 -- The dashed lines of these faults in their order.
 abbrev pub dashed_lines : List Parts → List Pair → List CheckFault → List ℕ
 dashed_lines Ps ps [] = []
 dashed_lines Ps ps (e ∷ es) =
-    dashed_line Ps ps (undecided_in e) ++ dashed_lines Ps (joined_after ps (undecided_in e)) es
+    dashed_line Ps ps (dashed_in e) ++ dashed_lines Ps (joined_after ps (dashed_in e)) es
 
 -- A red line for each two profiles that clash, then one for each other two that share an archive, and
--- then a dashed one for each other two of which it is too large to decide whether they clash.
+-- then a dashed one for each other two of which it isn't decided whether they clash.
 abbrev pub joining_lines : List Parts → List CheckFault → List (ℕ × ℕ) → List ℕ
 joining_lines Ps es archives =
     let red : List Pair = joined_by_red [] es in
     red_lines Ps [] es
     ++ (archive_edges Ps red archives ++ dashed_lines Ps (joined_by_archives red archives) es)
 
--- The graph of a set with these faults, and with profiles of these numbers that share archives.
-abbrev pub graph_text : Members → List CheckFault → List (ℕ × ℕ) → List ℕ
-graph_text S es archives =
+-- The graph of profiles with these faults, and of which these numbers share archives.
+abbrev pub graph_text : List Parts → List CheckFault → List (ℕ × ℕ) → List ℕ
+graph_text Ps es archives =
     head_text
-    ++ (profile_lines es 0 S.profiles
-    ++ (root_lines S.profiles
-    ++ (joining_lines S.profiles es archives ++ codes "}\n")))
+    ++ (profile_lines es 0 Ps
+    ++ (root_lines Ps ++ (joining_lines Ps es archives ++ codes "}\n")))

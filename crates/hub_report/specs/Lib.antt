@@ -16,6 +16,8 @@ pub mod Verdict
 pub mod ClashesAnswer
 pub mod Plan
 pub mod PlanAnswer
+pub mod InUnison
+pub mod UnisonAnswer
 pub mod RunAnswer
 pub mod Report
 pub mod laws

@@ -10,7 +10,7 @@ use Rattle.hub_report.specs.declared.report.Report.{Report}
 use Rattle.hub_report.specs.declared.report.Report.TheVariants.{Faulty, Reach, NoState, Refused, SameArchive}
 use Rattle.hub_report.specs.declared.report.Report.TheVariants.{Verdict, Clashes, Run}
 use Rattle.hub_report.specs.declared.report.Report.TheVariants.{Imported, NotImported}
-use Rattle.hub_report.specs.declared.report.Report.TheVariants.{Planned}
+use Rattle.hub_report.specs.declared.report.Report.TheVariants.{Planned, InUnison}
 use Rattle.hub_report.specs.declared.report.Report.TheVariants.{Mended, NotMended}
 use Rattle.hub_report.specs.declared.report.Report.TheVariants.{NotVerified, OutOfMemory}
 use Rattle.hub_report.specs.Archive.{archive_line}
@@ -20,6 +20,7 @@ use Rattle.hub_report.specs.PlanAnswer as plan
 use Rattle.hub_report.specs.ReachAnswer as reach
 use Rattle.hub_report.specs.Refusal.{refusal_line}
 use Rattle.hub_report.specs.RunAnswer as run
+use Rattle.hub_report.specs.UnisonAnswer as unison
 use Rattle.hub_report.specs.Verdict as verdict
 
 -- The text that says an answer.
@@ -35,6 +36,7 @@ text_of (Run a) = run.text_of a
 text_of (Imported text) = text.items
 text_of NotImported = codes "fault: no bundle says what was read\n"
 text_of (Planned a) = plan.text_of a
+text_of (InUnison a) = unison.text_of a
 text_of (Mended m) = m.text.items
 text_of NotMended = codes "fault: the lines were not read as they were meant\n"
 text_of NotVerified = codes "fault: a round was not verified\n"
@@ -57,6 +59,7 @@ status_of (Run a) = run.status_of a
 status_of (Imported text) = 0
 status_of NotImported = 2
 status_of (Planned a) = plan.status_of a
+status_of (InUnison a) = unison.status_of a
 status_of (Mended m) = mended_status m.safe
 status_of NotMended = 2
 status_of NotVerified = 2
@@ -65,6 +68,7 @@ status_of OutOfMemory = 2
 -- The lines of an answer that belong on standard error.
 abbrev pub undecided_of : Report → List ℕ
 undecided_of (Clashes a) = clashes.undecided_of a
+undecided_of (InUnison a) = unison.undecided_of a
 undecided_of _ = []
 
 -- Why the input wasn't read to its end, if the answer says so: a read failed, or there were too

@@ -11,8 +11,10 @@ use Rattle.hub_rounds.specs.declared.placing.Placing.TheVariants.{Round, Unplace
 use Rattle.hub_rounds.specs.declared.placing.Obstacle.{Obstacle}
 use Rattle.hub_rounds.specs.declared.placing.Obstacle.TheVariants.{Breach, TooLarge}
 use Rattle.hub_rounds.specs.declared.rounds.Rounds.{Rounds}
+use Rattle.hub_rounds.specs.declared.numbered.LeftOut.{LeftOut}
+use Rattle.hub_rounds.specs.declared.numbered.NumberedRounds.{NumberedRounds}
 use Rattle.hub_report.specs.Archive.{archive_lines}
-use Rattle.hub_report.specs.Refusal.{joined, refusal_line}
+use Rattle.hub_report.specs.Refusal.{joined, name_at, refusal_line}
 
 -- The lines of the faults of a set, each as if it were the only one.
 abbrev pub clash_lines : Members → List CheckFault → List ℕ
@@ -22,10 +24,12 @@ clash_lines S es = flat_map (refusal_line S) es
 abbrev pub lines_of_all : Members → List CheckFault → List (ℕ × ℕ) → List ℕ
 lines_of_all S es archives = clash_lines S es ++ archive_lines S.profiles archives
 
--- The line of a profile of the round of that number.
+-- The line of a profile of the round of that number: of that name; and of that profile.
+abbrev pub name_in : List ℕ → List ℕ → List ℕ
+name_in number name = joined (codes "round " ∷ number ∷ codes " " ∷ name ∷ codes "\n" ∷ [])
+
 abbrev pub line_in : List ℕ → Parts → List ℕ
-line_in number P =
-    joined (codes "round " ∷ number ∷ codes " " ∷ encode_utf8_all P.name ∷ codes "\n" ∷ [])
+line_in number P = name_in number (encode_utf8_all P.name)
 
 -- The lines of these rounds, of which the first has this number.
 abbrev pub lines_of_rounds : ℕ → List (List Parts) → List ℕ
@@ -37,13 +41,13 @@ lines_of_rounds k (Ps ∷ rounds) =
 abbrev pub rule_line : List ℕ → ℕ → List ℕ → List ℕ
 rule_line why rule name = joined (why ∷ decimal rule ∷ codes " " ∷ name ∷ codes "\n" ∷ [])
 
-abbrev pub reason_line : Parts → Obstacle → List ℕ
-reason_line P (Breach rule) = rule_line (codes "breach ") rule (encode_utf8_all P.name)
-reason_line P (TooLarge rule) = rule_line (codes "too large ") rule (encode_utf8_all P.name)
+abbrev pub reason_line : List ℕ → Obstacle → List ℕ
+reason_line name (Breach rule) = rule_line (codes "breach ") rule name
+reason_line name (TooLarge rule) = rule_line (codes "too large ") rule name
 
 abbrev pub placing_line : Parts → Placing → List ℕ
 placing_line P (Round k) = []
-placing_line P (Unplaced why) = reason_line P why
+placing_line P (Unplaced why) = reason_line (encode_utf8_all P.name) why
 
 abbrev pub left_line : Placed → List ℕ
 left_line p = placing_line p.profile p.placing
@@ -58,3 +62,23 @@ abbrev pub rounds_text : Rounds → List ℕ
 rounds_text r =
     counts_text (length r.rounds) (length r.rivals)
     ++ (lines_of_rounds 1 r.rounds ++ flat_map left_line r.left)
+
+-- The lines of the profiles of these numbers in a round; and of these rounds, of which the first has
+-- number k.
+abbrev pub number_line : List Parts → List ℕ → ℕ → List ℕ
+number_line Ps number i = name_in number (name_at Ps i)
+
+abbrev pub lines_of_numbers : List Parts → ℕ → List (List ℕ) → List ℕ
+lines_of_numbers Ps k [] = []
+lines_of_numbers Ps k (ns ∷ rounds) =
+    flat_map (number_line Ps (decimal k)) ns ++ lines_of_numbers Ps (k + 1) rounds
+
+-- The line of a profile that is left out.
+abbrev pub left_out_line : List Parts → LeftOut → List ℕ
+left_out_line Ps l = reason_line (name_at Ps l.number) l.reason
+
+-- The same counts and lines, of rounds of numbers of these profiles.
+abbrev pub numbers_text : List Parts → NumberedRounds → List ℕ
+numbers_text Ps r =
+    counts_text (length r.rounds) (length r.rivals)
+    ++ (lines_of_numbers Ps 1 r.rounds ++ flat_map (left_out_line Ps) r.left)

@@ -2,3 +2,4 @@ pub mod Graph
 pub mod Jobs
 pub mod Report
 pub mod Plan
+pub mod InUnison

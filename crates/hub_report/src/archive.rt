@@ -56,7 +56,7 @@ fn push_line(
 }
 
 /// The line of two profiles of these numbers, which share an archive. It ends with LF.
-pub(crate) fn archive_line(
+pub fn archive_line(
     alloc: Global,
     profiles: &[Profile],
     numbers: (usize, usize),

@@ -11,14 +11,14 @@ use crate::graph::{escaped, push_edge};
 use crate::pair::{Pair, are_joined};
 use crate::parts::push_all;
 use crate::refusal::name_at;
-use crate::undecided::undecided_in;
+use crate::undecided::pair_of_goal;
 use hub_cert::CheckFault;
 use hub_path::RelPath;
 use hub_profile::Profile;
 use std::alloc::{AllocError, Global};
 
 /// Adds a red line for each two profiles that clash, then one for each other two of these numbers, which share an archive, and
-/// then a dashed one for each other two of which it was too large to decide whether they clash.
+/// then a dashed one for each other two of which it wasn't decided whether they clash.
 pub(crate) fn push_clashes(
     alloc: Global,
     text: &mut String,
@@ -135,7 +135,7 @@ fn push_archive_edge(
     Ok(())
 }
 
-/// Adds a dashed line for each two profiles of which it was too large to decide whether they clash, if they aren't joined.
+/// Adds a dashed line for each two profiles of which it wasn't decided whether they clash, if they aren't joined.
 fn push_dashed_lines(
     alloc: Global,
     text: &mut String,
@@ -147,9 +147,19 @@ fn push_dashed_lines(
         (dashed_lines profiles.now joined.old.items faults.now)) }
 {
     for fault in faults {
-        push_dashed_line(alloc, text, joined, profiles, undecided_in(fault))?;
+        push_dashed_line(alloc, text, joined, profiles, dashed_in(fault))?;
     }
     Ok(())
+}
+
+/// The two profiles of a fault that doesn't show whether they clash.
+fn dashed_in(fault: &CheckFault) -> Option<Pair>
+    ensures { result ≡ graph.dashed_in fault.now }
+{
+    match fault {
+        CheckFault::TooLarge { goal } | CheckFault::Missing { goal } => pair_of_goal(*goal),
+        _ => None,
+    }
 }
 
 /// Adds a dashed line if there are two profiles that aren't joined, and joins them.
@@ -218,7 +228,7 @@ fn push_archive(
     push_red_edge(text, writer.as_str(), other.as_str(), "same archive")
 }
 
-/// Adds the dashed line of two profiles of which it was too large to decide whether they clash.
+/// Adds the dashed line of two profiles of which it wasn't decided whether they clash.
 fn push_undecided(
     alloc: Global,
     text: &mut String,

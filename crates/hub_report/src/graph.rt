@@ -1,4 +1,4 @@
-//! A graph of a set for Graphviz: its profiles, their roots, and what clashes.
+//! A graph of profiles for Graphviz: the profiles, their roots, and what clashes.
 ghost use Rattle.std.specs.Prelude.{◌≡◌, [], string_bytes, IfOk, OnOk};
 ghost use Rattle.hub_report.specs.Texts.{Gains};
 ghost use Rattle.hub_report.specs.Graph as graph;
@@ -6,13 +6,13 @@ ghost use Rattle.hub_report.specs.Graph.{texts_in};
 
 use crate::edges::push_clashes;
 use crate::parts::push_all;
-use hub_cert::{CheckFault, ProfileSet};
+use hub_cert::CheckFault;
 use hub_profile::Profile;
-use hub_rounds::{Clashes, Obstacle, Subject, subject_of};
+use hub_rounds::{Obstacle, Subject, subject_of};
 use std::alloc::{AllocError, Global};
 use std::collections::BTreeSet;
 
-/// What clashes in a set, as a graph.
+/// What clashes among profiles, as a graph.
 #[derive(Drop)]
 pub struct Graph {
     /// The text of the graph, for Graphviz.
@@ -28,20 +28,19 @@ const HEAD: &str = "graph clashes {
     edge [fontname = \"sans-serif\"];
 ";
 
-/// The text of a graph of a set for Graphviz: a box for each profile and lines to its two roots, and a red line for each two
-/// profiles that clash, with the path of the first fault that is about the two. Others of these numbers, which share an archive,
-/// are joined by a red line that says so. A profile that may break a rule is a red box. What is too large to decide is dashed.
+/// The text of a graph of profiles with these faults, for Graphviz: a box for each profile and lines to its two roots, and a red
+/// line for each two profiles that clash, with the path of the first fault that is about the two. Others of these numbers, which
+/// share an archive, are joined by a red line that says so. A profile that may break a rule is a red box. What isn't decided is
+/// dashed, as a goal is that is too large, or a clash of two profiles with nested roots.
 pub fn graph_of_clashes(
     alloc: Global,
-    set: &ProfileSet,
-    clashes: &Clashes,
+    profiles: &[Profile],
+    faults: &[CheckFault],
     archives: &[(usize, usize)],
 ) -> Result<String, AllocError>
     ensures { IfOk result (λ t. string_bytes t
-        ≡ graph.graph_text set.now clashes.now archives.now) }
+        ≡ graph.graph_text profiles.now faults.now archives.now) }
 {
-    let profiles = set.profiles();
-    let faults = clashes.lines();
     let mut text = String::from_str(alloc, HEAD)?;
     push_profiles(alloc, &mut text, faults, profiles)?;
     push_roots(alloc, &mut text, profiles)?;

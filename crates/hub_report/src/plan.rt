@@ -285,7 +285,11 @@ fn undecided_why(alloc: Global, stages: usize) -> Result<String, AllocError>
 }
 
 /// That the roots of the two profiles of a clash are nested.
-fn nested_why(alloc: Global, profiles: &[Profile], goal: Goal) -> Result<String, AllocError>
+pub(crate) fn nested_why(
+    alloc: Global,
+    profiles: &[Profile],
+    goal: Goal,
+) -> Result<String, AllocError>
     ensures { IfOk result (λ t. string_bytes t ≡ lines.nested_why profiles.now goal) }
 {
     match goal {

@@ -225,7 +225,11 @@ pub(crate) fn name_at(profiles: &[Profile], number: usize) -> &str
 }
 
 /// The writer's root at the place, or both roots for an archive.
-fn place_text(alloc: Global, writer: Option<&Profile>, place: Place) -> Result<String, AllocError>
+pub(crate) fn place_text(
+    alloc: Global,
+    writer: Option<&Profile>,
+    place: Place,
+) -> Result<String, AllocError>
     ensures { OfWriter writer.entry
         (λ W. IfOk result (λ t. string_bytes t ≡ lines.shown_place_of W place)) }
 {

@@ -10,6 +10,7 @@ use crate::plan_answer::PlanAnswer;
 use crate::reach_answer::ReachAnswer;
 use crate::run_answer::RunAnswer;
 use crate::told::{Answer, Refusal, Told};
+use crate::unison_answer::UnisonAnswer;
 use crate::verdict::Verdict;
 use std::alloc::{AllocError, Global};
 
@@ -41,6 +42,8 @@ pub enum Report<'a> {
     NotImported,
     /// A plan of Unison's runs.
     Planned(PlanAnswer),
+    /// What is answered about profiles as Unison may run them.
+    InUnison(UnisonAnswer),
     /// Lines that make a set safe, or the bundle with them.
     Mended(Mended),
     /// The bundle with the lines that were found isn't read as it was meant. Tests show none.
@@ -71,6 +74,7 @@ impl Report<'_> {
             Report::Clashes(answer) => answer.status(),
             Report::Run(answer) => answer.status(),
             Report::Planned(answer) => answer.status(),
+            Report::InUnison(answer) => answer.status(),
             Report::Mended(mended) => mended.status(),
         }
     }
@@ -81,6 +85,7 @@ impl Report<'_> {
     {
         match self {
             Report::Clashes(answer) => answer.undecided(),
+            Report::InUnison(answer) => answer.undecided(),
             _ => "",
         }
     }
@@ -111,6 +116,7 @@ impl Report<'_> {
                 Told::NotImported,
             ),
             Report::Planned(answer) => answer.into_answer(alloc),
+            Report::InUnison(answer) => answer.into_answer(alloc),
             Report::Mended(mended) => mended.into_answer(alloc),
             Report::NotMended => Answer::of_line(
                 alloc,

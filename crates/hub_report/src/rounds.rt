@@ -5,8 +5,9 @@ ghost use Rattle.hub_report.specs.Texts.{Gains};
 ghost use Rattle.hub_report.specs.Rounds as lines;
 
 use crate::parts::push_all;
+use crate::refusal::name_at;
 use hub_profile::Profile;
-use hub_rounds::{Obstacle, Placed, Placing, Rounds};
+use hub_rounds::{LeftOut, NumberedRounds, Obstacle, Placed, Placing, Rounds};
 use hub_text::Items;
 use std::alloc::{AllocError, Global};
 
@@ -80,20 +81,29 @@ fn push_left(alloc: Global, text: &mut String, left: &[Placed]) -> Result<(), Al
 fn push_placed(alloc: Global, text: &mut String, placed: &Placed) -> Result<(), AllocError>
     ensures { OnOk result (Gains text.old text.new (lines.left_line placed.now)) }
 {
-    let name = placed.profile.name().text();
     match placed.placing {
         Placing::Round(_) => Ok(()),
-        Placing::Unplaced(Obstacle::Breach(rule)) => push_reason(
-            alloc, text, "breach ", rule, name,
-        ),
-        Placing::Unplaced(Obstacle::TooLarge(rule)) => {
-            push_reason(alloc, text, "too large ", rule, name)
-        }
+        Placing::Unplaced(reason) => push_reason(alloc, text, placed.profile.name().text(), reason),
     }
 }
 
-/// Adds the line that says why a profile is in no round.
+/// Adds the line that says why a profile of that name is in no round.
 fn push_reason(
+    alloc: Global,
+    text: &mut String,
+    name: &str,
+    reason: Obstacle,
+) -> Result<(), AllocError>
+    ensures { OnOk result (Gains text.old text.new (lines.reason_line name.now reason)) }
+{
+    match reason {
+        Obstacle::Breach(rule) => push_rule(alloc, text, "breach ", rule, name),
+        Obstacle::TooLarge(rule) => push_rule(alloc, text, "too large ", rule, name),
+    }
+}
+
+/// Adds the line that says by which rule a profile is in no round.
+fn push_rule(
     alloc: Global,
     text: &mut String,
     reason: &str,
@@ -104,4 +114,72 @@ fn push_reason(
 {
     let rule = format!(in alloc; "{rule}")?;
     push_all(text, &[reason, rule.as_str(), " ", name, "\n"])
+}
+
+/// The same of rounds of numbers of these profiles.
+pub fn text_of_numbers(
+    alloc: Global,
+    profiles: &[Profile],
+    rounds: &NumberedRounds,
+) -> Result<String, AllocError>
+    ensures { IfOk result (λ t. string_bytes t ≡ lines.numbers_text profiles.now rounds.now) }
+{
+    let mut text = counts_text(alloc, rounds.rounds.len(), rounds.rivals.len())?;
+    push_numbered(alloc, &mut text, profiles, rounds.rounds.as_slice())?;
+    push_left_out(alloc, &mut text, profiles, rounds.left.as_slice())?;
+    Ok(text)
+}
+
+/// Adds the lines of rounds of numbers, of which the first has the number 1.
+fn push_numbered(
+    alloc: Global,
+    text: &mut String,
+    profiles: &[Profile],
+    rounds: &[Items<usize>],
+) -> Result<(), AllocError>
+    ensures { OnOk result (Gains text.old text.new
+        (lines.lines_of_numbers profiles.now 1 rounds.now)) }
+{
+    let mut number: usize = 0;
+    for round in rounds {
+        number += 1;
+        let shown = format!(in alloc; "{number}")?;
+        push_numbers(text, profiles, shown.as_str(), round.as_slice())?;
+    }
+    Ok(())
+}
+
+/// Adds the lines of the profiles of these numbers in a round.
+fn push_numbers(
+    text: &mut String,
+    profiles: &[Profile],
+    number: &str,
+    round: &[usize],
+) -> Result<(), AllocError>
+    ensures { OnOk result (Gains text.old text.new
+        (flat_map (lines.number_line profiles.now number.now) round.now)) }
+{
+    for own in round {
+        push_all(
+            text,
+            &["round ", number, " ", name_at(profiles, *own), "\n"],
+        )?;
+    }
+    Ok(())
+}
+
+/// Adds the lines of the profiles that are left out.
+fn push_left_out(
+    alloc: Global,
+    text: &mut String,
+    profiles: &[Profile],
+    left: &[LeftOut],
+) -> Result<(), AllocError>
+    ensures { OnOk result (Gains text.old text.new
+        (flat_map (lines.left_out_line profiles.now) left.now)) }
+{
+    for own in left {
+        push_reason(alloc, text, name_at(profiles, own.number), own.reason)?;
+    }
+    Ok(())
 }

@@ -5,7 +5,7 @@ ghost use Rattle.hub_report.specs.Blocks.{bytes_in};
 use crate::blocks::{Blocks, block_of};
 use crate::faulty_input::FaultyInput;
 use hub_automaton::AutomatonFault;
-use hub_cert::CheckFault;
+use hub_cert::{CheckFault, Goal};
 use hub_path::{Name, PathFault, RelPath, Root};
 use hub_profile::{Rule, Verb};
 use std::alloc::{AllocError, Global};
@@ -128,6 +128,13 @@ pub enum Refusal {
         /// The number of the second one.
         second: usize,
     },
+    /// Two profiles have nested roots, and may reach one another's paths: they aren't searched together.
+    NestedProfiles {
+        /// The number of the first profile.
+        first: usize,
+        /// The number of the second one.
+        second: usize,
+    },
     /// A goal has too many stages to be searched.
     TooLarge,
     /// The certificates don't show that the set is safe.
@@ -165,6 +172,20 @@ impl Refusal {
             CheckFault::AlphabetFault(AutomatonFault::TooManySpots) => Refusal::TooManySpots,
             _ => Refusal::BadCertificates,
         })
+    }
+
+    /// Why profiles are refused in Unison, where each two are searched together, and each one with these rules. A clash without a
+    /// certificate is one of profiles with nested roots.
+    pub fn in_unison(rules: &[Rule], fault: &CheckFault) -> Result<Refusal, AllocError> {
+        match fault {
+            CheckFault::Missing {
+                goal: Goal::Clash { writer, other, .. },
+            } => Ok(Refusal::NestedProfiles {
+                first: *writer,
+                second: *other,
+            }),
+            _ => Refusal::of(rules, fault),
+        }
     }
 
     /// That two profiles of these numbers share an archive.

@@ -31,17 +31,17 @@ pub fn undecided_pairs(
 }
 
 /// The two profiles of a fault, if it is that their clash is too large.
-pub(crate) fn undecided_in(fault: &CheckFault) -> Option<Pair>
+fn undecided_in(fault: &CheckFault) -> Option<Pair>
     ensures { result ≡ lines.undecided_in fault.now }
 {
     match fault {
-        CheckFault::TooLarge { goal } => pair_of(*goal),
+        CheckFault::TooLarge { goal } => pair_of_goal(*goal),
         _ => None,
     }
 }
 
 /// The two profiles of a clash.
-fn pair_of(goal: Goal) -> Option<Pair>
+pub(crate) fn pair_of_goal(goal: Goal) -> Option<Pair>
     ensures { result ≡ lines.clashing_pair goal }
 {
     match goal {

@@ -15,12 +15,15 @@ use Rattle.hub_report.specs.declared.plan_answer.PlanAnswer.{PlanAnswer}
 use Rattle.hub_report.specs.declared.plan_answer.PlanAnswer.TheVariants.{Made, Refused, BadRules}
 use Rattle.hub_report.specs.declared.reach_answer.ReachAnswer.{ReachAnswer}
 use Rattle.hub_report.specs.declared.reach_answer.ReachAnswer.TheVariants.{Reached, NotReached, NoProfile, BadPath}
-use Rattle.hub_report.specs.declared.report.Report.TheVariants.{Reach, Clashes, Run, Planned, Mended, OutOfMemory}
+use Rattle.hub_report.specs.declared.report.Report.TheVariants.{Reach, Clashes, Run, Planned, InUnison, Mended, OutOfMemory}
 use Rattle.hub_report.specs.declared.run_answer.RunAnswer.{RunAnswer}
 use Rattle.hub_report.specs.declared.run_answer.RunAnswer.TheVariants.{Ran, RanByRounds, RanInOrder, NotRun, NotRunInOrder}
 use Rattle.hub_report.specs.ClashesAnswer as clashes
 use Rattle.hub_report.specs.PlanAnswer as plans
 use Rattle.hub_report.specs.ReachAnswer as reach
+use Rattle.hub_report.specs.UnisonAnswer as answers
+use Rattle.hub_report.specs.declared.unison_answer.UnisonAnswer.{UnisonAnswer}
+use Rattle.hub_report.specs.declared.unison_answer.UnisonAnswer.TheVariants as unison
 use Rattle.hub_report.specs.RunAnswer as run
 use Rattle.hub_report.specs.Report.{status_of}
 use Rattle.hub_report.specs.laws.Starts.{begins-taken, first}
@@ -178,6 +181,13 @@ plan-le (Made p) = decided-le p.is_whole
 plan-le (Refused line refusal) = omega arith
 plan-le (BadRules f) = omega arith
 
+unison-le : (a : UnisonAnswer) → answers.status_of a ≤ 3
+unison-le unison.Safe = omega arith
+unison-le (unison.Refused line refusal) = omega arith
+unison-le (unison.Unsearched line refusal) = omega arith
+unison-le (unison.SameArchive line refusal) = omega arith
+unison-le (unison.Clashes a) = clashes-le a
+
 run-le : (a : RunAnswer) → run.status_of a ≤ 3
 run-le (Ran r) = ends-le r.finished
 run-le (RanByRounds r) = ends-le r.finished
@@ -190,6 +200,7 @@ status-le (Reach a) = reach-le a
 status-le (Clashes a) = clashes-le a
 status-le (Run a) = run-le a
 status-le (Planned a) = plan-le a
+status-le (InUnison a) = unison-le a
 status-le (Mended m) = decided-le m.safe
 status-le _ = omega arith
 

@@ -1,5 +1,5 @@
 -- What is true of the input if what is written begins with these letters.
-use Rattle.std.proofs.Common.{◌≡◌, ◌≢◌, ◌∙◌, ◌⊎◌, inl, inr, ℕ, Bool, true, false, cond, List, [], ◌∷◌, ◌++◌, take, String, Global, append-nil, Some, codes, refl, sym, ap, subst, arith}
+use Rattle.std.proofs.Common.{◌≡◌, ◌≢◌, ◌∙◌, ◌⊎◌, inl, inr, ℕ, Bool, true, false, cond, List, [], ◌∷◌, ◌++◌, take, String, Global, append-nil, None, Some, codes, refl, sym, ap, subst, arith}
 use Rattle.std.specs.Prelude.{⊤, string_bytes}
 use Rattle.std.proofs.lemmas.Bool.{false≢true}
 use Rattle.std.proofs.lemmas.List.{append_cancel_left}
@@ -10,7 +10,7 @@ use Rattle.hub_cert.specs.declared.fault.CheckFault.{CheckFault}
 use Rattle.hub_search.specs.Search.{Disproves}
 use Rattle.hub_state.specs.Writing.{state_text}
 use Rattle.hub_bundle.specs.declared.sections.BundleContents.{BundleContents}
-use Rattle.hub_bundle.specs.Sections.{members}
+use Rattle.hub_bundle.specs.Sections.{Spells, members}
 use Rattle.hub_report.specs.declared.report.Report.{Report}
 use Rattle.hub_report.specs.declared.report.Report.TheVariants as answer
 use Rattle.hub_report.specs.declared.clashes_answer.ClashesAnswer.{ClashesAnswer}
@@ -35,26 +35,24 @@ use Rattle.hub_report.specs.Verdict as verdict
 use Rattle.hub_report.specs.Refusal.{refusal_line}
 use Rattle.hub_report.specs.Jobs.{lines_of_jobs}
 use Rattle.hub_report.specs.Run.{error_line}
-use Rattle.hub_report.specs.laws.Starts.{HoldsOfStarts, Start, SafeStart, VerifiedStart, OverlapStart, BreachStart, TooLargeStart}
-use Rattle.hub_report.specs.laws.Starts.{RoundsStart, GraphStart, ReachedStart, NotReachedStart, ArchiveStart, PlanStart, OrderStart, OtherStart, start, begins-taken}
+use Rattle.hub_report.specs.laws.Starts.{HoldsOfStarts, Start, SafeStart, VerifiedStart, OverlapStart, BreachStart, TooLargeStart, NestedStart}
+use Rattle.hub_report.specs.laws.Starts.{RoundsStart, GraphStart, ReachedStart, NotReachedStart, ArchiveStart, PlanStart, OrderStart, start, begins-taken}
 use Rattle.hub_report.specs.laws.Starts.{lines-start, refusal-start}
 use Rattle.hub_cli.specs.declared.words.Question.{Question}
 use Rattle.hub_cli.specs.declared.words.Question.TheVariants as ask
 use Rattle.hub_cli.specs.declared.words.Reading.{Reading}
-use Rattle.hub_cli.specs.Words.{Request, about, reading_for, reading_of}
+use Rattle.hub_cli.specs.declared.words.Reading.TheVariants.{Plain}
+use Rattle.hub_cli.specs.Words.{Request, about, reading_for}
 use Rattle.hub_cli.specs.Words as question
 use Rattle.hub_serve.specs.declared.task.Task.{Task}
 use Rattle.hub_serve.specs.declared.task.Task.TheVariants as task
-use Rattle.hub_state.specs.State.{State}
-use Rattle.hub_report.specs.Archive.{archive_line, archive_lines}
-use Rattle.hub_report.specs.Rounds.{clash_lines}
 use Rattle.hub_report.specs.declared.told.Refusal.{Refusal}
-use Rattle.hub_serve.specs.Unison.{archives_as}
+use Rattle.hub_serve.specs.InUnison.{asked_in_unison}
 use Rattle.hub_serve.specs.Shown.{SpellsArchive}
 use Rattle.hub_serve.specs.Plans.{IsPlan, PlanHolds}
-use Rattle.hub_serve.specs.Shown.{FollowsSafe, IsWholeUnlessFailed, ShowsArchive, ShowsClashes, ShowsGraph, ShowsPlan, ShowsRounds, ShowsRoundsRun}
-use Rattle.hub_serve.specs.Told.{IsRefusedFor, IsTrueOf, Holds, SharesArchive, archives_in, may_say_safe}
-use Rattle.hub_serve.specs.Shown.{ShowsRunInOrder, SpellsRunInOrder}
+use Rattle.hub_serve.specs.Shown.{IsWholeUnlessFailed, ListsAs, ShowsClashes, ShowsRounds, ShowsRoundsRun, SpellsUnsafeAs}
+use Rattle.hub_serve.specs.Told.{IsRefusedFor, IsTrueOf, Holds, SharesArchive, may_say_safe}
+use Rattle.hub_serve.specs.Shown.{SpellsRunInOrder}
 use Rattle.hub_serve.specs.Shown.{SpellsClashes, SpellsGraph, SpellsPlan, SpellsRounds, SpellsRoundsRun, TellsSafe, SpellsUnsafe, SpellsVerified}
 use Rattle.hub_serve.specs.Rounds.{BeginsAsClash, DrawsClashes, ListsClashes, WritesRounds}
 use Rattle.hub_serve.specs.Runs.{HasRunAs, IsBelow, IsPrevented}
@@ -62,11 +60,13 @@ use Rattle.hub_serve.specs.Mended.{is_mend}
 use Rattle.hub_serve.specs.Task.{AsksTask, reading_in}
 use Rattle.hub_serve.specs.Unison.{SpellsAs}
 use Rattle.hub_serve.proofs.BundleStart.{bundle-start}
-use Rattle.hub_serve.proofs.InUnison.{archive-in_unison, rounds-in_unison, safe-in_unison}
+use Rattle.hub_serve.proofs.AskedInUnison.{plain-asked}
+use Rattle.hub_serve.proofs.FirstInUnison.{unison-means, unplanned-means}
+use Rattle.hub_serve.proofs.Means.{AreClashes, Means}
 use Rattle.hub_serve.proofs.Placed.{plan-places}
 use Rattle.hub_serve.proofs.PlansInUnison.{plan-in_unison, plan-keeps}
 use Rattle.hub_serve.proofs.Planning.{unplanned-no_numbers}
-use Rattle.hub_serve.proofs.Asking.{asked-clashes, asks, reading-asked, reading-for-task, unrefused}
+use Rattle.hub_serve.proofs.Asking.{asks, reading-for-task, unrefused}
 use Rattle.hub_serve.proofs.Refused.{BreachesShown, OverlapsShown, breach-refused, overlap-refused}
 use Rattle.hub_serve.proofs.RunInOrder.{in_order-shown, in_order-unrun, other-is-3, run_status, zero-finished}
 
@@ -75,19 +75,6 @@ check-below : (t : Task) (M : Members) → may_say_safe t ≡ true → IsBelow t
 check-below (task.Check reading) M is = (refl, refl)
 check-below (task.Clashes reading) M is = (refl, refl)
 check-below _ M is = absurd (false≢true is)
-
--- A run has no archives of Unison.
-run-archives : (t : Task) (M : Members) (n : ℕ) (S : State) → t ≡ task.RunJobs n S → archives_in t M ≡ []
-run-archives t M n S is = subst (λ u. archives_in u M ≡ []) (sym is) refl
-
--- A check isn't asked for what clashes.
-is_check : Task → Bool
-is_check (task.Check reading) = true
-is_check _ = false
-
-no-check : (reading asked : Reading) (t : Task) → t ≡ task.Check reading → t ≡ task.Clashes asked → ⊥
-unfolding is_check
-no-check reading asked t is clashes = false≢true (sym (ap is_check clashes) ∙ ap is_check is)
 
 -- What jobs left is below `safe`,
 ran-below : (t : Task) (M : Members) (r : run.Run) → HasRunAs t M r → IsBelow t M (run_status r.finished) (string_bytes r.lines ++ state_text r.state)
@@ -109,91 +96,50 @@ error-below : (t : Task) (M : Members) (f : RunFault) → IsPrevented t M f → 
 error-below t M f h =
     subst (λ u. IsBelow u M 3 (error_line f)) (sym h.task_is) (inr (record { error = f; reason = h.reason; text = refl; status_is = refl }))
 
--- The words ask what clashes: then the text says it.
-abbrev AreClashes : Request → List ℕ → List ℕ → ℕ → Type 0
-AreClashes request bytes line status = (reading : Reading) → request ≡ about (ask.Clashes reading) → ShowsClashes reading bytes line status
-
--- What is true of the question and of the input if the text of the answer starts so.
-abbrev Means : Request → List ℕ → List ℕ → ℕ → Start → Type 0
-Means request bytes line status SafeStart = (below : List ℕ) × (line ≡ codes "safe\n" ++ below) × FollowsSafe (Some request) bytes below status
-Means request bytes line status VerifiedStart = SpellsVerified (Some request) bytes
-Means request bytes line status OverlapStart = (OverlapsShown → SpellsUnsafe (Some request) bytes) × AreClashes request bytes line status
-Means request bytes line status BreachStart = (BreachesShown → SpellsUnsafe (Some request) bytes) × AreClashes request bytes line status
-Means request bytes line status TooLargeStart = AreClashes request bytes line status
-Means request bytes line status RoundsStart = ShowsRounds (Some request) bytes line status ⊎ ShowsRoundsRun (Some request) bytes line status
-Means request bytes line status GraphStart = ShowsGraph (Some request) bytes line status
-Means request bytes line status ReachedStart = IsTrueOf request bytes (answer.Reach Reached)
-Means request bytes line status NotReachedStart = IsTrueOf request bytes (answer.Reach NotReached)
-Means request bytes line status ArchiveStart = ShowsArchive (Some request) bytes line status × AreClashes request bytes line status
-Means request bytes line status PlanStart = ShowsPlan (Some request) bytes line status
-Means request bytes line status OrderStart = ShowsRunInOrder (Some request) bytes line status
-Means request bytes line status OtherStart = ⊤
-
 -- What a bundle spells as it was asked for, it spells as a request that is the same asks for.
 spelled-for : (request other : Request) (bytes : List ℕ) (c : BundleContents) → request ≡ other → SpellsAs (reading_for request) bytes c → SpellsAs (reading_for other) bytes c
 spelled-for request other bytes c is h = subst (λ r. SpellsAs (reading_for r) bytes c) is h
 
+-- A bundle whose set isn't safe, where the words want its profiles to be read plainly.
+unsafe-as : (request : Request) (bytes : List ℕ) (c : BundleContents) → reading_for request ≡ Plain → Spells bytes c → (IsSafeSet (members c) → ⊥) → SpellsUnsafe (Some request) bytes
+unsafe-as request bytes c plain spelled unsafe =
+    record { request = request; is_asked = refl; unsafe = subst (λ r. SpellsUnsafeAs r bytes) (sym plain) (c, spelled, unsafe) }
+
 -- It is true of the start of the line of a refusal,
-refusal-means : (request : Request) (bytes line : List ℕ) (status : ℕ) (c : BundleContents) (t : Task) (e : CheckFault) → SpellsAs (reading_for request) bytes c → AsksTask request c.state t → IsRefusedFor t c e
+refusal-means : (request : Request) (bytes line : List ℕ) (status : ℕ) (c : BundleContents) (t : Task) (e : CheckFault) → reading_for request ≡ Plain → Spells bytes c → AsksTask request c.state t → IsRefusedFor t c e
     → Means request bytes line status (start (refusal_line (members c) e))
-refusal-means request bytes line status c t e spelled asked refused =
+refusal-means request bytes line status c t e plain spelled asked refused =
     refusal-start (Means request bytes line status) (members c) e (record {
       other = tt;
       overlap = λ w o place held path is. (
-        λ shown. record {
-          request = request;
-          is_asked = refl;
-          contents = c;
-          spelled = spelled;
-          unsafe = overlap-refused shown t c w o place held path (subst (IsRefusedFor t c) is refused);
-        },
+        λ shown. unsafe-as request bytes c plain spelled (overlap-refused shown t c w o place held path (subst (IsRefusedFor t c) is refused)),
         λ reading asks. absurd (subst (IsRefused (members c)) is (unrefused reading request c t e asked asks refused)),
       );
       breach = λ p k path is. (
-        λ shown. record {
-          request = request;
-          is_asked = refl;
-          contents = c;
-          spelled = spelled;
-          unsafe = breach-refused shown t c p k path (subst (IsRefusedFor t c) is refused);
-        },
+        λ shown. unsafe-as request bytes c plain spelled (breach-refused shown t c p k path (subst (IsRefusedFor t c) is refused)),
         λ reading asks. absurd (subst (IsRefused (members c)) is (unrefused reading request c t e asked asks refused)),
       );
       too_large = λ g is. λ reading asks. absurd (subst (IsRefused (members c)) is (unrefused reading request c t e asked asks refused));
     })
 
 -- of that of the lines of what clashes,
-clashes-mean : (request : Request) (bytes line : List ℕ) (c : BundleContents) → SpellsAs (reading_for request) bytes c → ListsClashes (reading_for request) (members c) line
+clashes-mean : (request : Request) (bytes line : List ℕ) (c : BundleContents) → reading_for request ≡ Plain → Spells bytes c → ListsClashes Plain (members c) line
     → Means request bytes line 1 (start line)
-clashes-mean request bytes line c spelled h =
+clashes-mean request bytes line c plain spelled h =
     subst (λ t. Means request bytes line 1 (start t)) (sym h.text_is)
-    (lines-start (Means request bytes line 1) (members c) h.lines (archive_lines c.profiles archives) (λ none. behind archives refl none) (λ n e at. each e (h.disproved e (n, slice_get_within h.lines n e at, get_or_from_slice_get h.lines n e e at))))
+    (lines-start (Means request bytes line 1) (members c) h.lines [] (λ none. tt) (λ n e at. each e (h.disproved e (n, slice_get_within h.lines n e at, get_or_from_slice_get h.lines n e e at))))
   where
-    archives : List (ℕ × ℕ)
-    archives = archives_as (reading_for request) c.profiles
-
     says : AreClashes request bytes line 1
     says reading asks = record {
-      contents = c;
-      spelled = spelled-for request (about (ask.Clashes reading)) bytes c asks spelled;
-      listed = subst (λ r. ListsClashes (reading_for r) (members c) line) asks h;
+      listed = subst (λ r. ListsAs r bytes line) (sym plain ∙ ap reading_for asks) (c, spelled, h);
       status_is = refl;
     }
-
-    -- Behind lines that are empty, the text is that of the archives.
-    behind : (own : List (ℕ × ℕ)) → archives ≡ own → clash_lines (members c) h.lines ≡ [] → Means request bytes line 1 (start (archive_lines c.profiles archives))
-    behind [] is none = subst (λ ns. Means request bytes line 1 (start (archive_lines c.profiles ns))) (sym is) tt
-    behind (numbers ∷ others) is none =
-        let text : line ≡ archive_line c.profiles numbers ++ archive_lines c.profiles others =
-        h.text_is ∙ (ap (λ t. t ++ archive_lines c.profiles archives) none ∙ ap (archive_lines c.profiles) is) in
-        subst (λ ns. Means request bytes line 1 (start (archive_lines c.profiles ns))) (sym is)
-        (archive-in_unison request bytes c spelled numbers others is line (archive_lines c.profiles others) text, says)
 
     each : (e : CheckFault) → Disproves (members c) e → HoldsOfStarts (Means request bytes line 1) e
     each e d = record {
       other = tt;
-      overlap = λ w o place held path is. (λ shown. record { request = request; is_asked = refl; contents = c; spelled = spelled; unsafe = subst (Disproves (members c)) is d }, says);
-      breach = λ p k path is. (λ shown. record { request = request; is_asked = refl; contents = c; spelled = spelled; unsafe = subst (Disproves (members c)) is d }, says);
+      overlap = λ w o place held path is. (λ shown. unsafe-as request bytes c plain spelled (subst (Disproves (members c)) is d), says);
+      breach = λ p k path is. (λ shown. unsafe-as request bytes c plain spelled (subst (Disproves (members c)) is d), says);
       too_large = λ g is. says;
     }
 
@@ -206,31 +152,37 @@ reach-means request bytes (NoProfile n) line l h = subst (λ t. Means request by
 reach-means request bytes (BadPath f) line l h = subst (λ t. Means request bytes line 2 (start t)) (sym l) tt
 
 -- of that of `safe` with what is to follow it,
-safe-means : (request : Request) (bytes line : List ℕ) (status : ℕ) (c : BundleContents) (t : Task) (below : List ℕ) → line ≡ codes "safe\n" ++ below → SpellsAs (reading_for request) bytes c → AsksTask request c.state t
-    → IsSafeSet (members c) → archives_in t (members c) ≡ [] → IsBelow t (members c) status below → Means request bytes line status (start line)
-safe-means request bytes line status c t below l spelled asked safe none below_is =
+safe-means : (request : Request) (bytes line : List ℕ) (status : ℕ) (c : BundleContents) (t : Task) (below : List ℕ) → line ≡ codes "safe\n" ++ below → reading_for request ≡ Plain → Spells bytes c → AsksTask request c.state t
+    → IsSafeSet (members c) → IsBelow t (members c) status below → Means request bytes line status (start line)
+safe-means request bytes line status c t below l plain spelled asked safe below_is =
     subst (λ text. Means request bytes line status (start text)) (sym l) (
       below,
       l,
-      record {
+      inl (record {
         of_set = asked.of_set;
         is_asked = ap Some asked.asked;
+        plain = sym (ap reading_for asked.asked) ∙ plain;
         contents = c;
-        spelled = spelled-for request (about asked.of_set) bytes c asked.asked spelled;
+        spelled = spelled;
         to_do = t;
         to_do_is = asked.task_is;
         safe = safe;
-        in_unison = safe-in_unison (reading_of asked.of_set) bytes c (spelled-for request (about asked.of_set) bytes c asked.asked spelled) safe
-            (subst (λ reading. archives_as reading c.profiles ≡ []) (reading-asked asked.of_set c.state t asked.task_is) none);
         below = below_is;
-      },
+      }),
     )
+
+-- An answer about a set reads the profiles plainly, if the words aren't about Unison.
+plain-of : (request : Request) (bytes : List ℕ) (c : BundleContents) (t : Task) → asked_in_unison request ≡ None → AsksTask request c.state t → SpellsAs (reading_for request) bytes c → (reading_for request ≡ Plain) × Spells bytes c
+plain-of request bytes c t whole asked spelled =
+    let plain = plain-asked request c.state t asked whole in
+    (plain, subst (λ r. SpellsAs r bytes c) plain spelled)
 
 -- of a verdict,
 verdict-means : (request : Request) (bytes : List ℕ) (v : Verdict) (line : List ℕ) → line ≡ verdict.text_of v → IsTrueOf request bytes (answer.Verdict v)
     → Means request bytes line 0 (start line)
 verdict-means request bytes Safe line l h =
-    safe-means request bytes line 0 h.contents h.told.to_do [] l h.spelled h.told.asked h.told.told.1 h.told.told.2 (check-below h.told.to_do (members h.contents) h.told.told.0)
+    let p = plain-of request bytes h.contents h.told.to_do h.whole h.told.asked h.spelled in
+    safe-means request bytes line 0 h.contents h.told.to_do [] l p.0 p.1 h.told.asked h.told.told.1 (check-below h.told.to_do (members h.contents) h.told.told.0)
 verdict-means request bytes Verified line l h =
     let asked = asks request h.contents.state task.Verify (subst (AsksTask request h.contents.state) h.told.told.0 h.told.asked) in
     subst (λ t. Means request bytes line 0 (start t)) (sym l) (record {
@@ -247,40 +199,38 @@ verdict-means request bytes (Certified text) line l h =
 clashes-answer-means : (request : Request) (bytes : List ℕ) (a : ClashesAnswer) (line : List ℕ) → line ≡ clashes.text_of a
     → IsTrueOf request bytes (answer.Clashes a) → Means request bytes line (clashes.status_of a) (start line)
 clashes-answer-means request bytes (Lines text first) line l h =
-    let listed = subst (λ reading. ListsClashes reading (members h.contents) (string_bytes text)) (reading-for-task request h.contents.state h.told.to_do h.told.asked) h.told.told.1 in
-    clashes-mean request bytes line h.contents h.spelled (subst (ListsClashes (reading_for request) (members h.contents)) (sym l) listed)
+    let p = plain-of request bytes h.contents h.told.to_do h.whole h.told.asked h.spelled in
+    let same = reading-for-task request h.contents.state h.told.to_do h.told.asked ∙ p.0 in
+    let listed = subst (λ reading. ListsClashes reading (members h.contents) (string_bytes text)) same h.told.told.1 in
+    clashes-mean request bytes line h.contents p.0 p.1 (subst (ListsClashes Plain (members h.contents)) (sym l) listed)
 clashes-answer-means request bytes (Graph g) line l h =
+    let p = plain-of request bytes h.contents h.told.to_do h.whole h.told.asked h.spelled in
     let reading = reading_in h.told.to_do in
-    let same : reading ≡ reading_for request = reading-for-task request h.contents.state h.told.to_do h.told.asked in
-    let drawn : DrawsClashes (reading_for request) (members h.contents) line g.safe =
-    subst (λ t. DrawsClashes (reading_for request) (members h.contents) t g.safe) (sym l)
+    let same : reading ≡ Plain = reading-for-task request h.contents.state h.told.to_do h.told.asked ∙ p.0 in
+    let drawn : DrawsClashes Plain (members h.contents) line g.safe =
+    subst (λ t. DrawsClashes Plain (members h.contents) t g.safe) (sym l)
     (subst (λ r. DrawsClashes r (members h.contents) (string_bytes g.text) g.safe) same h.told.told.1) in
     let asked = asks request h.contents.state (task.Graph reading) (subst (AsksTask request h.contents.state) h.told.told.0 h.told.asked) in
     subst (λ t. Means request bytes line (cond g.safe 0 1) (start t)) (sym drawn.text_is) (record {
-      reading = reading_for request;
+      reading = Plain;
       is_asked = ap Some (asked ∙ ap (λ r. about (ask.Graph r)) same);
-      contents = h.contents;
-      spelled = h.spelled;
       well = g.safe;
-      drawn = drawn;
-      in_unison = λ u w. safe-in_unison (reading_for request) bytes h.contents h.spelled (drawn.sure w) (drawn.safe_is.0 w).1 u;
+      drawn = (h.contents, p.1, drawn);
       status_is = refl;
     })
 clashes-answer-means request bytes (Cut c) line l h =
+    let p = plain-of request bytes h.contents h.told.to_do h.whole h.told.asked h.spelled in
     let reading = reading_in h.told.to_do in
-    let same : reading ≡ reading_for request = reading-for-task request h.contents.state h.told.to_do h.told.asked in
-    let cut : WritesRounds (reading_for request) (members h.contents) line c.decided =
-    subst (λ t. WritesRounds (reading_for request) (members h.contents) t c.decided) (sym l)
+    let same : reading ≡ Plain = reading-for-task request h.contents.state h.told.to_do h.told.asked ∙ p.0 in
+    let cut : WritesRounds Plain (members h.contents) line c.decided =
+    subst (λ t. WritesRounds Plain (members h.contents) t c.decided) (sym l)
     (subst (λ r. WritesRounds r (members h.contents) (string_bytes c.text) c.decided) same h.told.told.1) in
     let asked = asks request h.contents.state (task.Rounds reading) (subst (AsksTask request h.contents.state) h.told.told.0 h.told.asked) in
     subst (λ t. Means request bytes line (cond c.decided 0 1) (start t)) (sym cut.text_is) (inl (record {
-      reading = reading_for request;
+      reading = Plain;
       is_asked = ap Some (asked ∙ ap (λ r. about (ask.Rounds r)) same);
-      contents = h.contents;
-      spelled = h.spelled;
       well = c.decided;
-      cut = cut;
-      in_unison = rounds-in_unison (reading_for request) bytes h.contents h.spelled cut.lines cut.rounds cut.all cut.cut;
+      cut = (h.contents, p.1, cut);
       status_is = refl;
     }))
 
@@ -288,8 +238,9 @@ clashes-answer-means request bytes (Cut c) line l h =
 run-means : (request : Request) (bytes : List ℕ) (a : RunAnswer) (line : List ℕ) → line ≡ runs.text_of a → IsTrueOf request bytes (answer.Run a)
     → Means request bytes line (runs.status_of a) (start line)
 run-means request bytes (Ran r) line l h =
-    safe-means request bytes line (run_status r.finished) h.contents h.told.to_do (string_bytes r.lines ++ state_text r.state) l h.spelled h.told.asked h.told.told.safe
-    (run-archives h.told.to_do (members h.contents) h.told.told.workers h.told.told.state h.told.told.task_is) (ran-below h.told.to_do (members h.contents) r h.told.told)
+    let p = plain-of request bytes h.contents h.told.to_do h.whole h.told.asked h.spelled in
+    safe-means request bytes line (run_status r.finished) h.contents h.told.to_do (string_bytes r.lines ++ state_text r.state) l p.0 p.1 h.told.asked h.told.told.safe
+    (ran-below h.told.to_do (members h.contents) r h.told.told)
 run-means request bytes (RanByRounds r) line l h =
     let t = h.told.told in
     let asked = asks request h.contents.state (task.RunByRounds t.workers t.state) (subst (AsksTask request h.contents.state) t.task_is h.told.asked) in
@@ -312,31 +263,22 @@ run-means request bytes (NotRunInOrder f) line l h =
     subst (λ t. Means request bytes line 3 (start t)) (sym l)
     (in_order-unrun request bytes line h.contents h.told.to_do f l h.spelled h.told.asked h.told.told)
 run-means request bytes (NotRun f) line l h =
-    safe-means request bytes line 3 h.contents h.told.to_do (error_line f) l h.spelled h.told.asked h.told.told.safe
-    (run-archives h.told.to_do (members h.contents) h.told.told.workers h.told.told.state h.told.told.task_is) (error-below h.told.to_do (members h.contents) f h.told.told)
+    let p = plain-of request bytes h.contents h.told.to_do h.whole h.told.asked h.spelled in
+    safe-means request bytes line 3 h.contents h.told.to_do (error_line f) l p.0 p.1 h.told.asked h.told.told.safe
+    (error-below h.told.to_do (members h.contents) f h.told.told)
 
 -- of that of the answer which archive is shared,
 archive-means : (request : Request) (bytes : List ℕ) (text : String Global) (refusal : Refusal) (line : List ℕ) → line ≡ string_bytes text → IsTrueOf request bytes (answer.SameArchive text refusal)
     → Means request bytes line 1 (start line)
 archive-means request bytes text refusal line l h =
     let c = h.contents in
-    let shared = subst (λ reading. SharesArchive reading (members c) (string_bytes text)) (reading-for-task request c.state h.told.to_do h.told.asked) h.told.told.1 in
-    let line_is : line ≡ archive_line c.profiles shared.numbers = l ∙ shared.line_is in
-    subst (λ t. Means request bytes line 1 (start t)) (sym line_is) (
-      archive-in_unison request bytes c h.spelled shared.numbers shared.others shared.first line [] (line_is ∙ sym (append-nil (archive_line c.profiles shared.numbers))),
-      λ reading asks. absurd (no-check (reading_in h.told.to_do) reading h.told.to_do h.told.told.0 (asked-clashes reading request c.state h.told.to_do h.told.asked asks)),
-    )
+    let p = plain-of request bytes c h.told.to_do h.whole h.told.asked h.spelled in
+    let same = reading-for-task request c.state h.told.to_do h.told.asked ∙ p.0 in
+    let shared = subst (λ reading. SharesArchive reading (members c) (string_bytes text)) same h.told.told.1 in
+    let none : [] ≡ shared.numbers ∷ shared.others = shared.first in
+    cc none
 
 -- of a plan,
-unplanned-means : (request : Request) (bytes line : List ℕ) (S : Members) (e : CheckFault) → has_no_numbers e ≡ true → Means request bytes line 1 (start (refusal_line S e))
-unplanned-means request bytes line S e none =
-    refusal-start (Means request bytes line 1) S e (record {
-      other = tt;
-      overlap = λ w o place held path is. absurd (false≢true (sym (ap has_no_numbers is) ∙ none));
-      breach = λ p k path is. absurd (false≢true (sym (ap has_no_numbers is) ∙ none));
-      too_large = λ g is. absurd (false≢true (sym (ap has_no_numbers is) ∙ none));
-    })
-
 plan-means : (request : Request) (bytes : List ℕ) (a : PlanAnswer) (line : List ℕ) → line ≡ plans.text_of a → (request ≡ question.planned) × PlanHolds bytes a
     → Means request bytes line (plans.status_of a) (start line)
 plan-means request bytes (Made p) line l h =
@@ -365,11 +307,13 @@ text-means request bytes (answer.Clashes a) line o l h = clashes-answer-means re
 text-means request bytes (answer.Run a) line o l h = run-means request bytes a line l h
 text-means request bytes (answer.Refused text refusal) line o l h =
     subst (λ t. Means request bytes line 1 (start t)) (sym (l ∙ h.told.told.1))
-    (refusal-means request bytes line 1 h.contents h.told.to_do h.told.reason h.spelled h.told.asked h.told.refused)
+    (let p = plain-of request bytes h.contents h.told.to_do h.whole h.told.asked h.spelled in
+    refusal-means request bytes line 1 h.contents h.told.to_do h.told.reason p.0 p.1 h.told.asked h.told.refused)
 text-means request bytes (answer.SameArchive text refusal) line o l h = archive-means request bytes text refusal line l h
 text-means request bytes (answer.Imported text) line o l h =
     subst (λ t. Means request bytes line 0 t) (sym (ap start l ∙ bundle-start text.items _ h.told.written)) tt
 text-means request bytes (answer.Planned a) line o l h = plan-means request bytes a line l h
+text-means request bytes (answer.InUnison a) line o l h = unison-means request bytes a line l h
 text-means request bytes (answer.Mended m) line o l h = absurd (false≢true (sym o ∙ ap is_mend h.asked))
 text-means request bytes _ line o l h = subst (λ t. Means request bytes line 2 (start t)) (sym l) tt
 
@@ -454,11 +398,12 @@ only_clashes reading request bytes r line text failed status is l wrote h b =
     other : is_mend request ≡ false
     other = ap is_mend is
 
-    go : (text ≡ codes "overlap: " ++ rest) ⊎ (text ≡ codes "breach: " ++ rest) ⊎ (text ≡ codes "too large: " ++ rest) ⊎ (text ≡ codes "same archive: " ++ rest) → ShowsClashes reading bytes line (status_of r)
+    go : (text ≡ codes "overlap: " ++ rest) ⊎ (text ≡ codes "breach: " ++ rest) ⊎ (text ≡ codes "too large: " ++ rest) ⊎ (text ≡ codes "same archive: " ++ rest) ⊎ (text ≡ codes "nested roots: " ++ rest) → ShowsClashes reading bytes line (status_of r)
     go (inl o) = (means request bytes r line OverlapStart other l (ap start (begins-taken (codes "overlap: ") line rest wrote.written (sym wrote.text_is ∙ o)).whole) h).1 reading is
     go (inr (inl o)) = (means request bytes r line BreachStart other l (ap start (begins-taken (codes "breach: ") line rest wrote.written (sym wrote.text_is ∙ o)).whole) h).1 reading is
     go (inr (inr (inl o))) = means request bytes r line TooLargeStart other l (ap start (begins-taken (codes "too large: ") line rest wrote.written (sym wrote.text_is ∙ o)).whole) h reading is
-    go (inr (inr (inr o))) = (means request bytes r line ArchiveStart other l (ap start (begins-taken (codes "same archive: ") line rest wrote.written (sym wrote.text_is ∙ o)).whole) h).1 reading is
+    go (inr (inr (inr (inl o)))) = (means request bytes r line ArchiveStart other l (ap start (begins-taken (codes "same archive: ") line rest wrote.written (sym wrote.text_is ∙ o)).whole) h).1 reading is
+    go (inr (inr (inr (inr o)))) = means request bytes r line NestedStart other l (ap start (begins-taken (codes "nested roots: ") line rest wrote.written (sym wrote.text_is ∙ o)).whole) h reading is
 
 -- only that of a verified one with a v,
 pub only_verified : (request : Request) (bytes : List ℕ) (r : Report) (line : List ℕ) (w : ℕ) (s : List ℕ) → is_mend request ≡ false → line ≡ text_of r → take w line ≡ 118 ∷ s → Holds request bytes r → SpellsVerified (Some request) bytes
@@ -470,10 +415,10 @@ pub only_reached : (request : Request) (bytes : List ℕ) (r : Report) (line : L
 only_reached request bytes r line w s other l e h =
     means request bytes r line ReachedStart other l (ap start (begins-taken (114 ∷ 101 ∷ 97 ∷ []) line s w e).whole) h
 
--- only that of a path that isn't with an n,
-pub only_not_reached : (request : Request) (bytes : List ℕ) (r : Report) (line : List ℕ) (w : ℕ) (s : List ℕ) → is_mend request ≡ false → line ≡ text_of r → take w line ≡ 110 ∷ s → Holds request bytes r → IsTrueOf request bytes (answer.Reach NotReached)
+-- only that of a path that isn't with `not`,
+pub only_not_reached : (request : Request) (bytes : List ℕ) (r : Report) (line : List ℕ) (w : ℕ) (s : List ℕ) → is_mend request ≡ false → line ≡ text_of r → take w line ≡ 110 ∷ 111 ∷ 116 ∷ s → Holds request bytes r → IsTrueOf request bytes (answer.Reach NotReached)
 only_not_reached request bytes r line w s other l e h =
-    means request bytes r line NotReachedStart other l (ap start (begins-taken (110 ∷ []) line s w e).whole) h
+    means request bytes r line NotReachedStart other l (ap start (begins-taken (110 ∷ 111 ∷ 116 ∷ []) line s w e).whole) h
 
 -- only that of an overlap with an o,
 pub only_overlaps : OverlapsShown → (request : Request) (bytes : List ℕ) (r : Report) (line : List ℕ) (w : ℕ) (s : List ℕ) → is_mend request ≡ false → line ≡ text_of r → take w line ≡ 111 ∷ s → Holds request bytes r → SpellsUnsafe (Some request) bytes

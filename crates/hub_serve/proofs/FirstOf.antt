@@ -12,7 +12,7 @@ use Rattle.hub_cli.specs.Words as question
 use Rattle.hub_serve.specs.declared.task.Task.{Task}
 use Rattle.hub_serve.specs.declared.task.Task.TheVariants as task
 use Rattle.hub_serve.specs.Runs.{IsBelow}
-use Rattle.hub_serve.specs.Shown.{SpellsRounds, SpellsRoundsRun, SpellsSafe, TellsSafe, may_be_safe}
+use Rattle.hub_serve.specs.Shown.{FollowsSafe, SpellsRounds, SpellsRoundsRun, SpellsSafe, SpellsSafeAs, TellsSafe, may_be_safe}
 use Rattle.hub_serve.specs.Task.{task_of}
 
 -- Nothing follows `safe` for a question that may not be answered so.
@@ -32,18 +32,23 @@ may-be ask.Verify state t M status below is b = absurd (subst (λ u. IsBelow u M
 may-be (ask.Graph reading) state t M status below is b = absurd (subst (λ u. IsBelow u M status below) (sym (same_Some (task.Graph reading) t is)) b)
 may-be (ask.Rounds reading) state t M status below is b = absurd (subst (λ u. IsBelow u M status below) (sym (same_Some (task.Rounds reading) t is)) b)
 
+-- Each way in which `safe` may be answered.
+safe-so : (asked : Option Request) (bytes text : List ℕ) (status : ℕ) → FollowsSafe asked bytes text status → SpellsSafe asked bytes
+safe-so asked bytes text status (inl f) = record {
+  of_set = f.of_set;
+  is_asked = f.is_asked;
+  may_be = may-be f.of_set f.contents.state f.to_do _ _ _ f.to_do_is f.below;
+  safe = subst (λ r. SpellsSafeAs r bytes) (sym f.plain) (f.contents, f.spelled, f.safe);
+}
+safe-so asked bytes text status (inr f) = record {
+  of_set = f.of_set;
+  is_asked = f.is_asked;
+  may_be = f.may_be;
+  safe = subst (λ r. SpellsSafeAs r bytes) (sym f.in_unison) f.safe;
+}
+
 pub safe-in : (asked : Option Request) (bytes text : List ℕ) (failed : Bool) (status : ℕ) → TellsSafe asked bytes text failed status → SpellsSafe asked bytes
-safe-in asked bytes text failed status told =
-    let f = told.is_so in
-    record {
-      of_set = f.of_set;
-      is_asked = f.is_asked;
-      may_be = may-be f.of_set f.contents.state f.to_do _ _ _ f.to_do_is f.below;
-      contents = f.contents;
-      spelled = f.spelled;
-      safe = f.safe;
-      in_unison = f.in_unison;
-    }
+safe-in asked bytes text failed status told = safe-so asked bytes told.full told.full_status told.is_so
 
 -- Who asks for rounds doesn't ask for a run by rounds.
 pub rounds-in : (asked : Option Request) (reading : Reading) (bytes text : List ℕ) (failed : Bool) (status : ℕ) → asked ≡ Some (question.about (ask.Rounds reading))

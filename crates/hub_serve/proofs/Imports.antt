@@ -16,6 +16,8 @@ use Rattle.hub_report.specs.declared.report.Report.TheVariants as answer
 use Rattle.hub_report.specs.declared.reach_answer.ReachAnswer.{ReachAnswer}
 use Rattle.hub_report.specs.declared.reach_answer.ReachAnswer.TheVariants.{Reached, NotReached, NoProfile, BadPath}
 use Rattle.hub_report.specs.Report.{status_of, text_of}
+use Rattle.hub_serve.specs.InUnison.{asked_in_unison}
+use Rattle.hub_serve.proofs.AskedInUnison.{unasked}
 use Rattle.hub_serve.specs.declared.task.Task.{Task}
 use Rattle.hub_serve.specs.Shown.{IsWholeUnlessFailed, ShowsImport}
 use Rattle.hub_serve.specs.Told.{Holds, IsToldOfReach}
@@ -68,6 +70,7 @@ shown request bytes text (answer.Imported t) is l z h =
     }
 shown request bytes text answer.NotImported is l z h = absurd (omega (arith, z))
 shown request bytes text (answer.Planned a) is l z h = absurd (other request _ is h.0 refl)
+shown request bytes text (answer.InUnison a) is l z h = absurd (unasked request bytes a (ap asked_in_unison is) h)
 shown request bytes text (answer.Mended m) is l z h = absurd (other request _ is h.asked refl)
 shown request bytes text answer.NotMended is l z h = absurd (omega (arith, z))
 shown request bytes text answer.NotVerified is l z h = absurd (omega (arith, z))

@@ -39,7 +39,7 @@ use Rattle.hub_report.specs.Refusal.{joined, name_at, name_text, text_of_root}
 use Rattle.hub_serve.specs.Rounds.{AreLinesAs}
 use Rattle.hub_serve.specs.Shown.{ShowsArchive}
 use Rattle.hub_unison.specs.Shared.{ShareNoArchive, is_shared, shared_pairs}
-use Rattle.hub_serve.specs.Unison.{SpellsAs, SpellsRoundInUnison, SpellsSafeInUnison, SpellsUnreachedInUnison, archives_as, first_written, written_in}
+use Rattle.hub_serve.specs.Unison.{SpellsAs, SpellsSafeInUnison, SpellsUnreachedInUnison, archives_as, first_written, written_in}
 use Rattle.hub_serve.proofs.SharedPairs.{all-shared, behind-others, first-shared, no-archive}
 use Rattle.hub_unison.specs.laws.Shared.{none-shared}
 
@@ -143,40 +143,6 @@ module _ (R : Written → Parts → Type 0) where
   first-read named (P ∷ Ps) (C ∷ Cs) h name D e =
       one-first P C (named P C h.0) h.0 Ps Cs name D (bytes_eq (encode_utf8_all C.name) name) refl e (first-read named Ps Cs h.1 name D)
 
-  -- The profiles whose readings stand in a round.
-  record InRound (k : ℕ) (own : List Written) (ps : List Placed) : Type 0 where
-    profiles : List Written
-    from : (i : ℕ) (P : Written) → slice_get profiles i ≡ Some P → (j : ℕ) × (slice_get own j ≡ Some P)
-    read : Each profiles (profiles_in_round k ps)
-
-  one-more : (k : ℕ) (P : Written) (Ps : List Written) (p : Placed) (ps : List Placed) (b : Bool) → is_in_round k p.placing ≡ b → R P p.profile → InRound k Ps ps
-      → InRound k (P ∷ Ps) (p ∷ ps)
-  one-more k P Ps p ps true is r h = record {
-    profiles = P ∷ h.profiles;
-    from = go;
-    read = subst (λ (b : Bool). Each (P ∷ h.profiles) (map (λ (q : Placed). q.profile) (cond b (p ∷ filter (λ q. is_in_round k q.placing) ps) (filter (λ q. is_in_round k q.placing) ps)))) (sym is) (r, h.read);
-  }
-    where
-      go : (i : ℕ) (Q : Written) → slice_get (P ∷ h.profiles) i ≡ Some Q → (j : ℕ) × (slice_get (P ∷ Ps) j ≡ Some Q)
-      go zero Q at = (0, at)
-      go (suc i) Q at = let f = h.from i Q at in (suc f.0, f.1)
-  one-more k P Ps p ps false is r h = record {
-    profiles = h.profiles;
-    from = λ i Q at. let f = h.from i Q at in (suc f.0, f.1);
-    read = subst (λ (b : Bool). Each h.profiles (map (λ (q : Placed). q.profile) (cond b (p ∷ filter (λ q. is_in_round k q.placing) ps) (filter (λ q. is_in_round k q.placing) ps)))) (sym is) h.read;
-  }
-
-  in-round : (k : ℕ) (Ps : List Written) (ps : List Placed) → Each Ps (map (λ p. p.profile) ps) → InRound k Ps ps
-  in-round k [] [] h = record { profiles = []; from = λ i P at. absurd (none-some P at); read = tt }
-  in-round k [] (p ∷ ps) h = absurd h
-  in-round k (P ∷ Ps) [] h = absurd h
-  in-round k (P ∷ Ps) (p ∷ ps) h = one-more k P Ps p ps (is_in_round k p.placing) refl h.0 (in-round k Ps ps h.1)
-
-round-at : (f : ℕ → List Parts) (a n k : ℕ) (round : List Parts) → slice_get (map f (range_with_len a n)) k ≡ Some round → (j : ℕ) × (f j ≡ round)
-round-at f a zero k round at = absurd (none-some round at)
-round-at f a (suc n) zero round at = (a, same_Some (f a) round at)
-round-at f a (suc n) (suc k) round at = round-at f (a + 1) n k round at
-
 -- The roots at a side of two; and what two profiles' roots share.
 abbrev side_of : List Path → Side → Option Path
 side_of rs side = at_side rs side
@@ -185,122 +151,16 @@ abbrev roots_shared : List Path → List Path → Bool
 roots_shared rs ss =
     list_all (λ r. list_any (λ own. path_eq own r) ss) rs || list_all (λ r. list_any (λ own. path_eq own r) rs) ss
 
--- Two profiles of a round, and where they stand among all.
-record StandTwo (k : ℕ) (ps : List Placed) (P Q : Parts) : Type 0 where
-  i : ℕ
-  j : ℕ
-  p : Placed
-  q : Placed
-  before : i < j
-  at_first : slice_get ps i ≡ Some p
-  at_second : slice_get ps j ≡ Some q
-  first_in : is_in_round k p.placing ≡ true
-  second_in : is_in_round k q.placing ≡ true
-  first_is : p.profile ≡ P
-  second_is : q.profile ≡ Q
-
-record StandsOne (k : ℕ) (ps : List Placed) (Q : Parts) : Type 0 where
-  j : ℕ
-  q : Placed
-  at : slice_get ps j ≡ Some q
-  within : is_in_round k q.placing ≡ true
-  profile_is : q.profile ≡ Q
-
--- The profiles of a round, if the first of these stands in it or not.
-abbrev with_first : ℕ → Placed → List Placed → Bool → List Parts
-with_first k p ps b = map (λ (q : Placed). q.profile) (cond b (p ∷ filter (λ q. is_in_round k q.placing) ps) (filter (λ q. is_in_round k q.placing) ps))
-
-one-stands : (k : ℕ) (ps : List Placed) (b : ℕ) (Q : Parts) → slice_get (profiles_in_round k ps) b ≡ Some Q → StandsOne k ps Q
-one-stands k [] b Q at = absurd (none-some Q at)
-one-stands k (p ∷ ps) b Q at = go b (is_in_round k p.placing) refl at (λ c f. one-stands k ps c Q f)
-  where
-    later : StandsOne k ps Q → StandsOne k (p ∷ ps) Q
-    later w = record { j = suc w.j; q = w.q; at = w.at; within = w.within; profile_is = w.profile_is }
-
-    go : (b : ℕ) (t : Bool) → is_in_round k p.placing ≡ t → slice_get (with_first k p ps t) b ≡ Some Q → ((c : ℕ) → slice_get (profiles_in_round k ps) c ≡ Some Q → StandsOne k ps Q) → StandsOne k (p ∷ ps) Q
-    go b false is at rest = later (rest b at)
-    go zero true is at rest = record { j = 0; q = p; at = refl; within = is; profile_is = same_Some p.profile Q at }
-    go (suc b) true is at rest = later (rest b at)
-
-two-stand : (k : ℕ) (ps : List Placed) (a b : ℕ) (P Q : Parts) → a < b → slice_get (profiles_in_round k ps) a ≡ Some P → slice_get (profiles_in_round k ps) b ≡ Some Q → StandTwo k ps P Q
-two-stand k [] a b P Q l at_a at_b = absurd (none-some P at_a)
-two-stand k (p ∷ ps) a b P Q l at_a at_b = go a b (is_in_round k p.placing) refl l at_a at_b (λ c d. two-stand k ps c d P Q)
-  where
-    later : StandTwo k ps P Q → StandTwo k (p ∷ ps) P Q
-    later w =
-        let l = w.before in
-        record { i = suc w.i; j = suc w.j; p = w.p; q = w.q; before = omega (arith, l); at_first = w.at_first; at_second = w.at_second; first_in = w.first_in; second_in = w.second_in; first_is = w.first_is; second_is = w.second_is }
-
-    first : (t : is_in_round k p.placing ≡ true) → p.profile ≡ P → StandsOne k ps Q → StandTwo k (p ∷ ps) P Q
-    first t is w =
-        record { i = 0; j = suc w.j; p = p; q = w.q; before = omega arith; at_first = refl; at_second = w.at; first_in = t; second_in = w.within; first_is = is; second_is = w.profile_is }
-
-    go : (a b : ℕ) (t : Bool) → is_in_round k p.placing ≡ t → a < b → slice_get (with_first k p ps t) a ≡ Some P → slice_get (with_first k p ps t) b ≡ Some Q
-        → ((c d : ℕ) → c < d → slice_get (profiles_in_round k ps) c ≡ Some P → slice_get (profiles_in_round k ps) d ≡ Some Q → StandTwo k ps P Q) → StandTwo k (p ∷ ps) P Q
-    go a b false is l at_a at_b rest = later (rest a b l at_a at_b)
-    go a zero true is l at_a at_b rest = absurd (omega (arith, l))
-    go zero (suc b) true is l at_a at_b rest = first is (same_Some p.profile P at_a) (one-stands k ps b Q at_b)
-    go (suc a) (suc b) true is l at_a at_b rest = later (rest a b (omega (arith, l)) at_a at_b)
-
--- The profile at a place of those that are placed.
-placed-at : (ps : List Placed) (i : ℕ) (p : Placed) → slice_get ps i ≡ Some p → slice_get (map (λ (q : Placed). q.profile) ps) i ≡ Some p.profile
-placed-at [] i p at = absurd (none-some p at)
-placed-at (q ∷ ps) zero p at = ap (λ (x : Placed). Some x.profile) (same_Some q p at)
-placed-at (q ∷ ps) (suc i) p at = placed-at ps i p at
-
 -- Two profiles with a line of their own are about each other.
-itself-pair : (i j : ℕ) → names_pair (subject_of (pair_line (i, j))) i j ≡ true
+pub itself-pair : (i j : ℕ) → names_pair (subject_of (pair_line (i, j))) i j ≡ true
 itself-pair i j = grind (arith, nat_tests)
-
--- No two profiles of a round share an archive, since they have a line.
-round-shares-none : (S : Members) (lines : List CheckFault) (r : Rounds) → AreLinesAs Unison S lines → (a : AreRounds S lines r) → (k : ℕ) → ShareNoArchive (profiles_in_round k a.placed)
-round-shares-none S lines r all a k =
-    no-archive (profiles_in_round k a.placed) (λ x y P Q l at_x at_y is.
-    let w = two-stand k a.placed x y P Q l at_x at_y in
-    let first : slice_get S.profiles w.i ≡ Some P = ap (λ Ps. slice_get Ps w.i) (sym a.all) ∙ (placed-at a.placed w.i w.p w.at_first ∙ ap Some w.first_is) in
-    let second : slice_get S.profiles w.j ≡ Some Q = ap (λ Ps. slice_get Ps w.j) (sym a.all) ∙ (placed-at a.placed w.j w.q w.at_second ∙ ap Some w.second_is) in
-    let own = all-shared S.profiles w.i w.j P Q w.before first second is in
-    let line = behind-others all.found (map pair_line (shared_pairs S.profiles)) (pair_line (w.i, w.j)) (to-map pair_line (shared_pairs S.profiles) (w.i, w.j) own) in
-    a.split w.i w.j k w.before (w.p, w.at_first, w.first_in) (w.q, w.at_second, w.second_in)
-    (pair_line (w.i, w.j), subst (λ es. Contains es (pair_line (w.i, w.j))) (sym all.with_archives) line, itself-pair w.i w.j))
-
--- Each round of readings is one of profiles that are so in Unison.
-pub rounds-in_unison : (reading : Reading) (bytes : List ℕ) (c : BundleContents) → SpellsAs reading bytes c → (lines : List CheckFault) (r : Rounds)
-    → AreLinesAs reading (members c) lines → AreRounds (members c) lines r → reading ≡ Unison → (k : ℕ) (round : List Parts) → slice_get r.rounds k ≡ Some round → SpellsRoundInUnison bytes round
-rounds-in_unison Plain bytes c h lines r all a is = absurd (plain≢unison is)
-rounds-in_unison Unison bytes c h lines r all a is = λ k round at.
-    let own = h.0 in
-    let rules : c.rules ≡ own.rules = ap (λ (d : BundleContents). d.rules) h.2.others in
-    let Reads : Written → Parts → Type 0 = IsReadingOf own.rules in
-    let Ws : List Written = written_in h.1.sections in
-    let all_read : AreReadForUnison Ws own.rules c.profiles = h.2.profiles Ws (bundle-written (counted_bundle bytes) own h.1) in
-    let each : Each Reads Ws (map (λ p. p.profile) a.placed) =
-    subst (Each Reads Ws) (sym a.all) (each-of Reads Ws c.profiles all_read.count all_read.each) in
-    let number = round-at (λ n. profiles_in_round n a.placed) 0 (length r.rounds) k round (ap (λ rs. slice_get rs k) (sym a.rounds) ∙ at) in
-    let found : InRound Reads number.0 Ws a.placed = in-round Reads number.0 Ws a.placed each in
-    let in_round : Each Reads found.profiles round = subst (Each Reads found.profiles) number.1 found.read in
-    let read : AreReadForUnison found.profiles own.rules round = record {
-      count = each-length Reads found.profiles round in_round;
-      each = each-at Reads found.profiles round in_round;
-    } in
-    let safe : IsSafeSet (record { profiles = round; rules = c.rules }) = a.safe k round at in
-    let apart : ShareNoArchive round = subst ShareNoArchive number.1 (round-shares-none (members c) lines r all a number.0) in
-    record {
-      own = own;
-      spelled = h.1;
-      profiles = found.profiles;
-      from = λ i P within. found.from i P within;
-      names = each-names Reads (λ P C h. h.cautious.name) found.profiles round in_round;
-      safe = read-safe found.profiles own.rules round (map forbidden_by c.rules) read safe apart;
-      kept = read-keeps found.profiles own.rules round (map forbidden_by c.rules) (ap (map forbidden_by) rules) read safe;
-    }
 
 -- The line of two profiles that share an archive has their names and roots alone.
 abbrev line_of : List ℕ → List ℕ → List ℕ → List ℕ
 line_of first second roots =
     joined (codes "same archive: " ∷ first ∷ codes " and " ∷ second ∷ roots ∷ [])
 
-same-line : (Ps Cs : List Parts) (n : ℕ × ℕ) (P Q C D : Parts) → slice_get Ps n.0 ≡ Some P → slice_get Ps n.1 ≡ Some Q → slice_get Cs n.0 ≡ Some C → slice_get Cs n.1 ≡ Some D
+pub same-line : (Ps Cs : List Parts) (n : ℕ × ℕ) (P Q C D : Parts) → slice_get Ps n.0 ≡ Some P → slice_get Ps n.1 ≡ Some Q → slice_get Cs n.0 ≡ Some C → slice_get Cs n.1 ≡ Some D
     → C.name ≡ P.name → D.name ≡ Q.name → C.roots ≡ P.roots → archive_line Cs n ≡ archive_line Ps n
 same-line Ps Cs n P Q C D own_first own_second first second name other_name roots =
     let names : name_at Cs n.0 ≡ name_at Ps n.0 = ap name_text first ∙ (ap encode_utf8_all name ∙ sym (ap name_text own_first)) in
@@ -308,60 +168,6 @@ same-line Ps Cs n P Q C D own_first own_second first second name other_name root
     let rooted : roots_text_of (slice_get Cs n.0) ≡ roots_text_of (slice_get Ps n.0) =
     ap roots_text_of first ∙ (ap (λ rs. joined_roots (text_of_root (side_of rs Left)) (text_of_root (side_of rs Right))) roots ∙ sym (ap roots_text_of own_first)) in
     λ t. line_of (names t) (others t) (rooted t)
-
-same-shared : (P Q C D : Parts) → C.roots ≡ P.roots → D.roots ≡ Q.roots → is_shared C D ≡ true → is_shared P Q ≡ true
-same-shared P Q C D first second is = sym (λ t. roots_shared (first t) (second t)) ∙ is
-
--- An own profile, and its reading's name and roots.
-record OwnProfile (Ps : List Parts) (i : ℕ) (C : Parts) : Type 0 where
-  P : Parts
-  at : slice_get Ps i ≡ Some P
-  name : C.name ≡ P.name
-  roots : C.roots ≡ P.roots
-
-own-profile : (Rs : List Rule) (Ws : List Written) (Ps Cs : List Parts) → AreWrittenAs Ws Ps → AreReadForUnison Ws Rs Cs → (i : ℕ) (C : Parts) → slice_get Cs i ≡ Some C → OwnProfile Ps i C
-own-profile Rs Ws Ps Cs written read i C at =
-    let one = own-at (IsReadingOf Rs) Ws Cs read.count read.each i C at in
-    let own = written.each i one.0 one.1 in
-    record {
-      P = own.0;
-      at = own.1;
-      name = one.2.cautious.name ∙ ap (λ (Q : Parts). Q.name) own.2.parts;
-      roots = one.2.cautious.roots ∙ ap (λ (Q : Parts). Q.roots) own.2.parts;
-    }
-
--- What begins with the line of the first two profiles of the readings that share an archive begins with that of two own ones.
-pub archive-in_unison : (request : Request) (bytes : List ℕ) (c : BundleContents) → SpellsAs (reading_for request) bytes c → (numbers : ℕ × ℕ) (others : List (ℕ × ℕ))
-    → archives_as (reading_for request) c.profiles ≡ numbers ∷ others → (line rest : List ℕ) → line ≡ archive_line c.profiles numbers ++ rest → ShowsArchive (Some request) bytes line 1
-archive-in_unison request bytes c h numbers others first line rest is = go (reading_for request) refl h first
-  where
-    go : (reading : Reading) → reading_for request ≡ reading → SpellsAs reading bytes c → archives_as reading c.profiles ≡ numbers ∷ others → ShowsArchive (Some request) bytes line 1
-    go Plain asks h first = cc
-    go Unison asks h first =
-        let own = h.0 in
-        let Ws : List Written = written_in h.1.sections in
-        let written : AreWrittenAs Ws own.profiles = bundle-written (counted_bundle bytes) own h.1 in
-        let read : AreReadForUnison Ws own.rules c.profiles = h.2.profiles Ws written in
-        let pair = first-shared c.profiles numbers others first in
-        let one = own-profile own.rules Ws own.profiles c.profiles written read numbers.0 pair.P pair.at_first in
-        let two = own-profile own.rules Ws own.profiles c.profiles written read numbers.1 pair.Q pair.at_second in
-        record {
-          request = request;
-          is_asked = refl;
-          for_unison = asks;
-          own = own;
-          spelled = h.1;
-          numbers = numbers;
-          P = one.P;
-          Q = two.P;
-          before = pair.before;
-          at_first = one.at;
-          at_second = two.at;
-          shared = same-shared one.P two.P pair.P pair.Q one.roots two.roots pair.shared;
-          rest = rest;
-          text_is = is ∙ ap (λ l. l ++ rest) (same-line own.profiles c.profiles numbers one.P two.P pair.P pair.Q one.at two.at pair.at_first pair.at_second one.name two.name one.roots);
-          status_is = refl;
-        }
 
 -- What a cautious reading doesn't reach, Unison doesn't.
 unreached : (P : Written) (C : Parts) → IsCautious P C → (p : Path) → hub.reach C p ≡ false → (m : Matching) → IsMatching m → reach_by m P p ≡ false

@@ -13,6 +13,8 @@ use Rattle.hub_report.specs.declared.report.Report.TheVariants as answer
 use Rattle.hub_report.specs.declared.reach_answer.ReachAnswer.{ReachAnswer}
 use Rattle.hub_report.specs.declared.reach_answer.ReachAnswer.TheVariants.{Reached, NotReached, NoProfile, BadPath}
 use Rattle.hub_report.specs.Report.{status_of, text_of}
+use Rattle.hub_serve.specs.InUnison.{asked_in_unison}
+use Rattle.hub_serve.proofs.AskedInUnison.{unasked}
 use Rattle.hub_serve.specs.declared.task.Task.{Task}
 use Rattle.hub_serve.specs.Mended.{Mends, is_mend, mend_text}
 use Rattle.hub_serve.specs.Shown.{IsWholeUnlessFailed, ShowsMend}
@@ -76,6 +78,7 @@ module _ (reading : Reading) (as_bundle : Bool) where
   shown request bytes text (answer.Imported t) status is l e z h = absurd (other request _ is h.told.asked refl)
   shown request bytes text answer.NotImported status is l e z h = absurd (omega (arith, e, z))
   shown request bytes text (answer.Planned a) status is l e z h = absurd (other request _ is h.0 refl)
+  shown request bytes text (answer.InUnison a) status is l e z h = absurd (unasked request bytes a (ap asked_in_unison is) h)
   shown request bytes text (answer.Mended m) status is l e z h = found request bytes text m status is l e h
   shown request bytes text answer.NotMended status is l e z h = absurd (omega (arith, e, z))
   shown request bytes text answer.NotVerified status is l e z h = absurd (omega (arith, e, z))

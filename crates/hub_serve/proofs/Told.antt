@@ -35,11 +35,12 @@ use Rattle.hub_report.specs.declared.report.Report.{Report}
 use Rattle.hub_report.specs.declared.reach_answer.ReachAnswer.TheVariants.{BadPath}
 use Rattle.hub_report.specs.declared.report.Report.TheVariants.{Faulty, Reach, NoState, Refused, SameArchive, Verdict, OutOfMemory}
 use Rattle.hub_report.specs.declared.verdict.Verdict.TheVariants.{Safe}
-use Rattle.hub_report.specs.declared.report.Report.TheVariants.{Imported, NotImported, Planned, Mended, NotMended}
+use Rattle.hub_report.specs.declared.report.Report.TheVariants.{Imported, NotImported, Planned, InUnison, Mended, NotMended}
 use Rattle.hub_serve.specs.declared.task.Task.{Task}
 use Rattle.hub_report.specs.Report.{TellsArchive, TellsRefusal, has_no_numbers}
 use Rattle.hub_serve.specs.Told.{FaultOf, HasBadPath, Holds, IsTold, IsToldAnyway, IsToldOfSet, IsUnspelled, puts_apart}
 use Rattle.hub_serve.specs.Rounds.{DrawsClashes}
+use Rattle.hub_serve.specs.InUnison.{asked_in_unison}
 use Rattle.hub_serve.specs.Task.{AsksTask, LacksState, reading_in, task_of}
 use Rattle.hub_serve.specs.Unison.{SpellsAs, SpellsCounted, archives_as, counted_as}
 use Rattle.hub_serve.proofs.Asking.{reading-asked}
@@ -81,6 +82,7 @@ set-told q c to_do is (Refused t f) h = record { to_do = to_do; asked = asks-for
 set-told q c to_do is (Imported t) h = absurd h
 set-told q c to_do is NotImported h = absurd h
 set-told q c to_do is (Planned a) h = absurd h
+set-told q c to_do is (InUnison a) h = absurd h
 set-told q c to_do is (Mended m) h = absurd h
 set-told q c to_do is NotMended h = absurd h
 set-told q c to_do is OutOfMemory h = tt
@@ -196,13 +198,13 @@ archive-told reading S (first ∷ others) numbers _ own at safe h = absurd h
 pub drawn : (reading : Reading) (S : Members) (es : List CheckFault) (archives : List (ℕ × ℕ)) (text : List ℕ) (safe : Bool) → archives ≡ archives_as reading S.profiles → AreFaults S es
     → ((e : CheckFault) → Contains es e → Disproves S e)
     → ((g : Goal) → IsTrue (is_goal S g) → HasInductiveTexts S g ⊎ HasLine S es g) → (es ≡ [] → IsSafeSet S)
-    → text ≡ graph_text S es archives → safe ≡ (length es == 0 && length archives == 0) → DrawsClashes reading S text safe
+    → text ≡ graph_text S.profiles es archives → safe ≡ (length es == 0 && length archives == 0) → DrawsClashes reading S text safe
 drawn reading S es archives text safe own all disproved rest sure text_is safe_is = record {
   lines = es;
   all = all;
   disproved = disproved;
   rest = rest;
-  text_is = text_is ∙ ap (graph_text S es) own;
+  text_is = text_is ∙ ap (graph_text S.profiles es) own;
   safe_is = (
     λ t. let both = and_parts (length es == 0) (length archives == 0) (sym safe_is ∙ t) in (none-in es both.0, sym own ∙ none-in archives both.1),
     λ e. safe_is ∙ and_from (length es == 0) (length archives == 0) (ap (λ (xs : List CheckFault). length xs == 0) e.0) (ap (λ (xs : List (ℕ × ℕ)). length xs == 0) (own ∙ e.1)),
@@ -211,10 +213,11 @@ drawn reading S es archives text safe own all disproved rest sure text_is safe_i
 }
 
 -- What is true of what a bundle says is true of its bytes.
-pub told-holds : (request : Request) (bytes : List ℕ) (c : BundleContents) (r : Report) → SpellsAs (reading_for request) bytes c → IsTold request c r → Holds request bytes r
-told-holds request bytes c (Faulty f) s h = absurd h
-told-holds request bytes c (Planned a) s h = absurd h
-told-holds request bytes c (Mended m) s h = absurd h
-told-holds request bytes c NotMended s h = absurd h
-told-holds request bytes c OutOfMemory s h = tt
-told-holds request bytes c _ s h = record { contents = c; spelled = s; told = h }
+pub told-holds : (request : Request) (bytes : List ℕ) (c : BundleContents) (r : Report) → asked_in_unison request ≡ None → SpellsAs (reading_for request) bytes c → IsTold request c r → Holds request bytes r
+told-holds request bytes c (Faulty f) w s h = absurd h
+told-holds request bytes c (Planned a) w s h = absurd h
+told-holds request bytes c (InUnison a) w s h = absurd h
+told-holds request bytes c (Mended m) w s h = absurd h
+told-holds request bytes c NotMended w s h = absurd h
+told-holds request bytes c OutOfMemory w s h = tt
+told-holds request bytes c _ w s h = record { whole = w; contents = c; spelled = s; told = h }

@@ -2,6 +2,7 @@ pub mod Reads
 pub mod Task
 pub mod Runs
 pub mod Rounds
+pub mod InUnison
 pub mod Reached
 pub mod Unison
 pub mod ByRounds

@@ -44,7 +44,7 @@ pub record DrawsClashes (reading : Reading) (S : Members) (text : List ℕ)
   pub all : AreFaults S lines
   pub disproved : (e : CheckFault) → Contains lines e → Disproves S e
   pub rest : (g : Goal) → IsTrue (is_goal S g) → HasInductiveTexts S g ⊎ HasLine S lines g
-  pub text_is : text ≡ graph_text S lines (archives_as reading S.profiles)
+  pub text_is : text ≡ graph_text S.profiles lines (archives_as reading S.profiles)
   pub safe_is : safe ≡ true ↔ (lines ≡ []) × (archives_as reading S.profiles ≡ [])
   pub sure : safe ≡ true → IsSafeSet S
 
@@ -107,10 +107,11 @@ OfLines found C =
     (reading : Reading)
     → OfMembers found.profiles found.rules (λ S. AreLinesAs reading S found.lines → C reading S)
 
--- A text begins as the line of an overlap, of a breach, of a goal that is too large, or of an archive
--- that is shared.
+-- A text begins as the line of an overlap, of a breach, of a goal that is too large, of an archive that
+-- is shared, or of nested roots.
 abbrev pub BeginsAsClash : List ℕ → Type 0
 BeginsAsClash text =
     (rest : List ℕ)
     × ((text ≡ codes "overlap: " ++ rest) ⊎ (text ≡ codes "breach: " ++ rest)
-    ⊎ (text ≡ codes "too large: " ++ rest) ⊎ (text ≡ codes "same archive: " ++ rest))
+    ⊎ (text ≡ codes "too large: " ++ rest) ⊎ (text ≡ codes "same archive: " ++ rest)
+    ⊎ (text ≡ codes "nested roots: " ++ rest))

@@ -68,9 +68,9 @@ pub record Serves (asked : Option Request) (remaining old new : Option (List ℕ
   pub few : status ≤ 3
   pub nothing : asked ≡ None → AnswersNothing old new status
   -- `safe` is written only if the words ask for a check, for what clashes or for a run, and the
-  -- input spells a safe set, as the words want its profiles to be read. If that is for Unison, then
-  -- by the lines that count no two of its own profiles clash in Unison, and Unison breaks none of
-  -- its rules.
+  -- input spells a safe set. If they want the profiles to be read for Unison, then by the lines that
+  -- count no two own profiles clash in Unison, wherever their roots lie, and Unison breaks none of the
+  -- rules.
   pub safe : (bytes text : List ℕ) → asks_mend asked ≡ false
       → Begins remaining old new (codes "safe\n") bytes text → SpellsSafe asked bytes
   -- `verified` is written only if the words ask for `verify`, and the input's certificates show that
@@ -82,13 +82,14 @@ pub record Serves (asked : Option Request) (remaining old new : Option (List ℕ
   pub same_archive : (bytes text : List ℕ) → asks_mend asked ≡ false
       → Begins remaining old new (codes "same archive: ") bytes text
       → SpellsArchive asked bytes (codes "same archive: " ++ text) failed status
-  -- `overlap:` and `breach:` are written only if the input spells a set that isn't safe.
+  -- `overlap:` and `breach:` are written only if the input spells a set that isn't safe. For Unison,
+  -- two of its profiles aren't, or one with the rules, as they are read for it.
   pub overlap : (bytes text : List ℕ) → asks_mend asked ≡ false
       → Begins remaining old new (codes "overlap: ") bytes text → SpellsUnsafe asked bytes
   pub breach : (bytes text : List ℕ) → asks_mend asked ≡ false
       → Begins remaining old new (codes "breach: ") bytes text → SpellsUnsafe asked bytes
   -- Where the words ask for rounds, `rounds` is written only if the input spells a set that is cut
-  -- so.
+  -- so. For Unison, the profiles of each round are safe together.
   pub rounds : (reading : Reading) (bytes text : List ℕ)
       → asked ≡ Some (question.about (ask.Rounds reading))
       → Begins remaining old new (codes "rounds ") bytes text

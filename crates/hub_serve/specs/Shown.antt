@@ -1,5 +1,5 @@
 -- What the first line of what is written shows of the input.
-use Rattle.std.specs.Prelude.{◌≡◌, ◌<◌, ◌++◌, ℕ, Bool, true, false, if◌then◌else◌, List, [], ◌∷◌, take, Option, Some, codes, slice_get}
+use Rattle.std.specs.Prelude.{◌≡◌, ◌⊎◌, ◌<◌, ◌++◌, ℕ, Bool, true, false, if◌then◌else◌, List, [], ◌∷◌, take, Option, Some, codes, slice_get}
 use Rattle.hub_profile.specs.Parts.{Parts}
 use Rattle.hub_cert.specs.Set.{IsSafeSet}
 use Rattle.hub_cert.specs.Verdict.{AreInductive}
@@ -32,7 +32,9 @@ use Rattle.hub_unison.specs.Rules.{KeepsRulesInUnison}
 use Rattle.hub_unison.specs.Shared.{ShareNoArchive, is_shared, shared_pairs}
 use Rattle.hub_unison.specs.UnisonReach.{IsSafeInUnison}
 use Rattle.hub_unison.specs.Written.{Written}
-use Rattle.hub_serve.specs.Unison.{SpellsAs, SpellsRoundInUnison, SpellsSafeInUnison, SpellsUnreachedInUnison, written_in}
+use Rattle.hub_serve.specs.Unison.{IsSafeRound, SpellsAs, SpellsSafeInUnison, SpellsSafeTogether, SpellsUnreachedInUnison, written_in}
+use Rattle.hub_serve.specs.InUnison.{DrawsInUnison, ListsInUnison, RoundsInUnison}
+use Rattle.hub_apart.specs.UnsafeParts.{HasUnsafePart}
 use Rattle.hub_serve.specs.Task.{task_of}
 use Rattle.hub_serve.specs.Told.{ReachIs, SaysOfMended}
 
@@ -54,23 +56,6 @@ pub record TellsUnlessFailed (IsSo : List ℕ → ℕ → Type 0) (text : List �
   pub is_so : IsSo full full_status
   pub told : IsWholeUnlessFailed full full_status failed text status
 
--- The bytes are a bundle whose profiles, as the words want them to be read, and rules are a safe
--- set, and this text is what is to follow `safe`, with this status.
-pub record FollowsSafe (asked : Option Request) (bytes text : List ℕ) (status : ℕ) : Type 0 where
-  pub of_set : Question
-  pub is_asked : asked ≡ Some (question.about of_set)
-  pub contents : BundleContents
-  pub spelled : SpellsAs (reading_of of_set) bytes contents
-  pub to_do : Task
-  pub to_do_is : task_of of_set contents.state ≡ Some to_do
-  pub safe : IsSafeSet (members contents)
-  pub in_unison : reading_of of_set ≡ read.Unison → SpellsSafeInUnison bytes
-  pub below : IsBelow to_do (members contents) status text
-
--- The same of what is written of that text; and so of each text below.
-abbrev pub TellsSafe : Option Request → List ℕ → List ℕ → Bool → ℕ → Type 0
-TellsSafe asked bytes = TellsUnlessFailed (FollowsSafe asked bytes)
-
 -- Whether `safe` may be an answer to a question.
 abbrev pub may_be_safe : Question → Bool
 may_be_safe ask.CheckWithState = true
@@ -79,24 +64,67 @@ may_be_safe (ask.Check reading) = true
 may_be_safe (ask.Clashes reading) = true
 may_be_safe _ = false
 
--- `safe` may be the answer, and the bytes are a bundle whose profiles, as the words want them to be
--- read, and rules are a safe set.
+-- The bytes are a bundle whose profiles and rules are a safe set, and this text is what is to follow
+-- `safe`, with this status.
+pub record FollowsSafeSet (asked : Option Request) (bytes text : List ℕ) (status : ℕ) : Type 0 where
+  pub of_set : Question
+  pub is_asked : asked ≡ Some (question.about of_set)
+  pub plain : reading_of of_set ≡ read.Plain
+  pub contents : BundleContents
+  pub spelled : Spells bytes contents
+  pub to_do : Task
+  pub to_do_is : task_of of_set contents.state ≡ Some to_do
+  pub safe : IsSafeSet (members contents)
+  pub below : IsBelow to_do (members contents) status text
+
+-- By the lines that count, they are a bundle whose own profiles are safe together in Unison. Then
+-- nothing follows.
+pub record FollowsSafeInUnison (asked : Option Request) (bytes text : List ℕ) (status : ℕ) :
+    Type 0 where
+  pub of_set : Question
+  pub is_asked : asked ≡ Some (question.about of_set)
+  pub in_unison : reading_of of_set ≡ read.Unison
+  pub may_be : may_be_safe of_set ≡ true
+  pub safe : SpellsSafeTogether bytes
+  pub text_is : text ≡ []
+  pub status_is : status ≡ 0
+
+abbrev pub FollowsSafe : Option Request → List ℕ → List ℕ → ℕ → Type 0
+FollowsSafe asked bytes text status =
+    FollowsSafeSet asked bytes text status ⊎ FollowsSafeInUnison asked bytes text status
+
+-- The same of what is written of that text; and so of each text below.
+abbrev pub TellsSafe : Option Request → List ℕ → List ℕ → Bool → ℕ → Type 0
+TellsSafe asked bytes = TellsUnlessFailed (FollowsSafe asked bytes)
+
+-- The bytes are a bundle whose profiles and rules are a safe set; or whose own profiles are safe
+-- together in Unison, by the lines that count.
+abbrev pub SpellsSafeAs : Reading → List ℕ → Type 0
+SpellsSafeAs read.Plain bytes =
+    (c : BundleContents) × Spells bytes c × IsSafeSet (members c)
+SpellsSafeAs read.Unison bytes = SpellsSafeTogether bytes
+
+-- `safe` may be the answer, and this is so, as the words want the profiles to be read.
 pub record SpellsSafe (asked : Option Request) (bytes : List ℕ) : Type 0 where
   pub of_set : Question
   pub is_asked : asked ≡ Some (question.about of_set)
   pub may_be : may_be_safe of_set ≡ true
-  pub contents : BundleContents
-  pub spelled : SpellsAs (reading_of of_set) bytes contents
-  pub safe : IsSafeSet (members contents)
-  pub in_unison : reading_of of_set ≡ read.Unison → SpellsSafeInUnison bytes
+  pub safe : SpellsSafeAs (reading_of of_set) bytes
 
--- The bytes are a bundle whose profiles, as the words want them to be read, and rules aren't.
+-- The bytes are a bundle whose profiles and rules aren't a safe set; or of whose profiles one, with
+-- the rules, or two aren't, as they are read for Unison.
+abbrev pub SpellsUnsafeAs : Reading → List ℕ → Type 0
+SpellsUnsafeAs read.Plain bytes =
+    (c : BundleContents) × Spells bytes c × (IsSafeSet (members c) → ⊥)
+SpellsUnsafeAs read.Unison bytes =
+    (own : BundleContents) × Spells (counted_bundle bytes) own
+    × HasUnsafePart own.profiles own.rules
+
+-- This is so, as the words want them to be read.
 pub record SpellsUnsafe (asked : Option Request) (bytes : List ℕ) : Type 0 where
   pub request : Request
   pub is_asked : asked ≡ Some request
-  pub contents : BundleContents
-  pub spelled : SpellsAs (reading_for request) bytes contents
-  pub unsafe : IsSafeSet (members contents) → ⊥
+  pub unsafe : SpellsUnsafeAs (reading_for request) bytes
 
 -- The words ask to verify the bundle's certificates, and these make its set safe.
 pub record SpellsVerified (asked : Option Request) (bytes : List ℕ) : Type 0 where
@@ -106,28 +134,40 @@ pub record SpellsVerified (asked : Option Request) (bytes : List ℕ) : Type 0 w
   pub inductive : AreInductive (members contents) contents.certificates
   pub safe : IsSafeSet (members contents)
 
--- The bytes are a bundle of whose set, if its profiles are read so, this text lists what clashes,
--- with status 1.
+-- The bytes are a bundle of whose set this text lists what clashes; or of whose own profiles, as
+-- Unison may run them. The status is 1.
+abbrev pub ListsAs : Reading → List ℕ → List ℕ → Type 0
+ListsAs read.Plain bytes text =
+    (c : BundleContents) × Spells bytes c × ListsClashes read.Plain (members c) text
+ListsAs read.Unison bytes text = ListsInUnison bytes text
+
 pub record ShowsClashes (reading : Reading) (bytes text : List ℕ) (status : ℕ) : Type 0 where
-  pub contents : BundleContents
-  pub spelled : SpellsAs reading bytes contents
-  pub listed : ListsClashes reading (members contents) text
+  pub listed : ListsAs reading bytes text
   pub status_is : status ≡ 1
 
 abbrev pub SpellsClashes : Reading → List ℕ → List ℕ → Bool → ℕ → Type 0
 SpellsClashes reading bytes = TellsUnlessFailed (ShowsClashes reading bytes)
 
--- The words ask for rounds, and the bytes are a bundle whose set is cut so. All is well if each
--- profile is in a round and no goal was too large: then the status is 0, else 1.
+-- The own profiles of the bundle that the lines that count are have these rounds, and the profiles
+-- of each round are safe together in Unison.
+pub record CutsInUnison (bytes text : List ℕ) (well : Bool) : Type 0 where
+  pub cut : RoundsInUnison bytes text well
+  pub safe : (k : ℕ) (numbers : List ℕ) → slice_get cut.rounds.rounds k ≡ Some numbers
+      → IsSafeRound (written_in cut.input.spelled.sections) cut.input.own.rules numbers
+
+-- The bytes are a bundle whose set is cut so; or whose own profiles are, as Unison may run them.
+abbrev pub CutsAs : Reading → List ℕ → List ℕ → Bool → Type 0
+CutsAs read.Plain bytes text well =
+    (c : BundleContents) × Spells bytes c × WritesRounds read.Plain (members c) text well
+CutsAs read.Unison bytes text well = CutsInUnison bytes text well
+
+-- The words ask for rounds, and these are written. All is well if each profile is in a round and no
+-- goal was too large: then the status is 0, else 1.
 pub record ShowsRounds (asked : Option Request) (bytes text : List ℕ) (status : ℕ) : Type 0 where
   pub reading : Reading
   pub is_asked : asked ≡ Some (question.about (ask.Rounds reading))
-  pub contents : BundleContents
-  pub spelled : SpellsAs reading bytes contents
   pub well : Bool
-  pub cut : WritesRounds reading (members contents) text well
-  pub in_unison : reading ≡ read.Unison → (k : ℕ) (round : List Parts)
-      → slice_get cut.rounds.rounds k ≡ Some round → SpellsRoundInUnison bytes round
+  pub cut : CutsAs reading bytes text well
   pub status_is : status ≡ (if well then 0 else 1)
 
 abbrev pub SpellsRounds : Option Request → List ℕ → List ℕ → Bool → ℕ → Type 0
@@ -153,16 +193,20 @@ pub record ShowsPlan (asked : Option Request) (bytes text : List ℕ) (status : 
 abbrev pub SpellsPlan : Option Request → List ℕ → List ℕ → Bool → ℕ → Type 0
 SpellsPlan asked bytes = TellsUnlessFailed (ShowsPlan asked bytes)
 
--- They ask for a graph of what clashes, and its set is drawn so. The status is 0 if it is safe, else
--- 1.
+-- The bytes are a bundle whose set is drawn so; or whose own profiles are, as Unison may run them. If
+-- all is well, these are safe together.
+abbrev pub DrawsAs : Reading → List ℕ → List ℕ → Bool → Type 0
+DrawsAs read.Plain bytes text well =
+    (c : BundleContents) × Spells bytes c × DrawsClashes read.Plain (members c) text well
+DrawsAs read.Unison bytes text well =
+    DrawsInUnison bytes text well × (well ≡ true → SpellsSafeTogether bytes)
+
+-- They ask for a graph of what clashes, and this is drawn. The status is 0 if all is well, else 1.
 pub record ShowsGraph (asked : Option Request) (bytes text : List ℕ) (status : ℕ) : Type 0 where
   pub reading : Reading
   pub is_asked : asked ≡ Some (question.about (ask.Graph reading))
-  pub contents : BundleContents
-  pub spelled : SpellsAs reading bytes contents
   pub well : Bool
-  pub drawn : DrawsClashes reading (members contents) text well
-  pub in_unison : reading ≡ read.Unison → well ≡ true → SpellsSafeInUnison bytes
+  pub drawn : DrawsAs reading bytes text well
   pub status_is : status ≡ (if well then 0 else 1)
 
 abbrev pub SpellsGraph : Option Request → List ℕ → List ℕ → Bool → ℕ → Type 0

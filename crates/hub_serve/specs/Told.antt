@@ -45,6 +45,7 @@ use Rattle.hub_serve.specs.declared.task.Task.TheVariants as task
 use Rattle.hub_serve.specs.Reached.{first_named}
 use Rattle.hub_serve.specs.Mended.{Mends, asks_mend, mend_text}
 use Rattle.hub_serve.specs.Plans.{PlanHolds}
+use Rattle.hub_serve.specs.InUnison.{UnisonHolds, asked_in_unison}
 use Rattle.hub_mend.specs.Additions.{line_count, safe_line}
 use Rattle.hub_mend.specs.declared.piece.Piece.{Piece}
 use Rattle.hub_report.specs.Archive.{archive_line}
@@ -238,14 +239,17 @@ IsTold request c answer.NoState = LacksState request c.state
 IsTold request c (answer.Imported text) = IsImported request c text.items
 IsTold request c answer.NotImported = IsNotImported request c
 IsTold request c (answer.Planned a) = ⊥
+IsTold request c (answer.InUnison a) = ⊥
 IsTold request c (answer.Mended m) = ⊥
 IsTold request c answer.NotMended = ⊥
 IsTold request c (answer.Refused t f) = IsToldRefused request c (answer.Refused t f)
 IsTold request c answer.OutOfMemory = ⊤
 IsTold request c r = IsToldAbout request c r
 
--- The bytes are a bundle of which that is true, if its profiles are read as it was asked for.
+-- The bytes are a bundle of which that is true, if its profiles are read as it was asked for. It isn't
+-- asked about them as Unison may run them, where each two are judged by themselves.
 pub record IsTrueOf (request : Request) (bytes : List ℕ) (r : Report) : Type 0 where
+  pub whole : asked_in_unison request ≡ None
   pub contents : BundleContents
   pub spelled : SpellsAs (reading_for request) bytes contents
   pub told : IsTold request contents r
@@ -306,6 +310,7 @@ abbrev pub Holds : Request → List ℕ → Report → Type 0
 Holds request bytes (answer.Faulty f) = IsFaulty (reading_for request) bytes f
 Holds request bytes answer.OutOfMemory = ⊤
 Holds request bytes (answer.Planned a) = (request ≡ question.planned) × PlanHolds bytes a
+Holds request bytes (answer.InUnison a) = UnisonHolds (asked_in_unison request) bytes a
 Holds request bytes (answer.Mended m) = IsMended request bytes m
 Holds request bytes answer.NotMended = asks_mend (Some request) ≡ true
 Holds request bytes r = IsTrueOf request bytes r

@@ -1,8 +1,13 @@
 -- What an input spells if its profiles are read for Unison, and what a yes then says.
-use Rattle.std.specs.Prelude.{◌≡◌, ℕ, false, List, [], ◌∷◌, map, slice_get, Option, Some, None, Result, Ok, Err, bytes_eq, encode_utf8_all, if◌then◌else◌}
+use Rattle.std.specs.Prelude.{◌≡◌, ℕ, false, List, [], ◌∷◌, length, slice_get, Option, Some, None, Result, Ok, Err, bytes_eq, encode_utf8_all, if◌then◌else◌}
 use Rattle.std.specs.List.{flat_map}
 use Rattle.hub_path.specs.Path.{Path}
 use Rattle.hub_profile.specs.Parts.{Parts}
+use Rattle.hub_profile.specs.declared.rule.Rule.{Rule}
+use Rattle.hub_apart.specs.WithoutLines.{AreSome}
+use Rattle.hub_parts.specs.Anywhere.{IsSafeAnywhereInUnison}
+use Rattle.hub_parts.specs.InUnison.{parts_read}
+use Rattle.hub_parts.specs.Whole.{AreRootsApart}
 use Rattle.hub_unison.specs.Matching.{IsMatching, Matching}
 use Rattle.hub_unison.specs.UnisonReach.{IsSafeInUnison, reach_by}
 use Rattle.hub_unison.specs.Rules.{AreReadForUnison, KeepsRulesInUnison}
@@ -79,17 +84,25 @@ pub record SpellsSafeInUnison (bytes : List ℕ) : Type 0 where
   pub safe : IsSafeInUnison (written_in spelled.sections)
   pub kept : KeepsRulesInUnison (written_in spelled.sections) own.rules
 
--- The lines that count are a bundle, and these are the profiles of a round. Of its own profiles of
--- the same names no two clash in Unison, and by them Unison breaks none of its rules.
-pub record SpellsRoundInUnison (bytes : List ℕ) (round : List Parts) : Type 0 where
+-- No two of these profiles clash in Unison, wherever their roots lie. So they are safe in Unison, if no
+-- different roots of them are nested. By them Unison breaks none of the rules.
+pub record AreSafeTogether (Ws : List Written) (Rs : List Rule) : Type 0 where
+  pub anywhere : IsSafeAnywhereInUnison Ws
+  pub safe : AreRootsApart (parts_read Ws) [] → IsSafeInUnison Ws
+  pub kept : KeepsRulesInUnison Ws Rs
+
+-- The lines that count are a bundle, whose own profiles are safe together.
+pub record SpellsSafeTogether (bytes : List ℕ) : Type 0 where
   pub own : BundleContents
   pub spelled : Spells (counted_bundle bytes) own
+  pub together : AreSafeTogether (written_in spelled.sections) own.rules
+
+-- Of all of these profiles, those of a round, by their numbers, are safe together.
+pub record IsSafeRound (all : List Written) (Rs : List Rule) (numbers : List ℕ) : Type 0 where
   pub profiles : List Written
-  pub from : (i : ℕ) (W : Written) → slice_get profiles i ≡ Some W
-      → (j : ℕ) × (slice_get (written_in spelled.sections) j ≡ Some W)
-  pub names : map (λ W. W.parts.name) profiles ≡ map (λ C. C.name) round
-  pub safe : IsSafeInUnison profiles
-  pub kept : KeepsRulesInUnison profiles own.rules
+  pub count : length profiles ≡ length numbers
+  pub some : AreSome all profiles numbers
+  pub together : AreSafeTogether profiles Rs
 
 -- The lines that count are a bundle, and by its first own profile of this name Unison doesn't reach
 -- the path.

@@ -1,2 +1,3 @@
 pub mod Mending
 pub mod Planning
+pub mod InUnison

@@ -5,6 +5,7 @@ ghost use Rattle.hub_bundle.specs.Sections.{Spells};
 ghost use Rattle.hub_cli.specs.Words.{about, reading_for, request_of};
 ghost use Rattle.hub_report.specs.Report.{says_read_failed, unread_by};
 ghost use Rattle.hub_serve.specs.Reads.{AreSpent, reads_between};
+ghost use Rattle.hub_serve.specs.InUnison.{unison_question};
 ghost use Rattle.hub_serve.specs.Told as told;
 ghost use Rattle.hub_serve.specs.Unison.{IsReadAs, SpellsAs, SpellsCounted};
 
@@ -14,6 +15,8 @@ use crate::plan::report_on_plan;
 use crate::progress::Progress;
 use crate::reach::report_on_reach;
 use crate::reading::{counted_as, read_as};
+use crate::unison::report_on_unison;
+use crate::unison_question::UnisonQuestion;
 use crate::verdict::report_on_set;
 use hub_bundle::{
     BundleContents, BundleFault, BundleLineFault, InputFault, ReadError, read_bundle, read_input,
@@ -65,7 +68,10 @@ fn report_on_bytes<'a, T: Threads + Wait + Sync, P: Progress + Sync>(
     ensures read { unread_by result ≡ None }
 {
     match asked {
-        Query::About(question) => report_on_question(rt, alloc, question, bytes, progress),
+        Query::About(question) => match UnisonQuestion::of(question) {
+            Some(asked) => report_on_unison(alloc, asked, bytes),
+            None => report_on_question(rt, alloc, question, bytes, progress),
+        },
         Query::Plan => report_on_plan(alloc, bytes),
         Query::Mend { reading, as_bundle } => {
             report_on_mend(rt, alloc, reading, as_bundle, bytes, progress)
@@ -85,8 +91,8 @@ fn report_on_bytes<'a, T: Threads + Wait + Sync, P: Progress + Sync>(
     }
 }
 
-/// The answer to a question about the set of an input's bytes. They are dropped as soon as they are read, before anything is
-/// done.
+/// The answer to a question about the set of an input's bytes, which isn't about its profiles as Unison may run them. They are
+/// dropped as soon as they are read, before anything is done.
 fn report_on_question<'a, T: Threads + Wait + Sync, P: Progress + Sync>(
     rt: &T,
     alloc: Global,
@@ -94,6 +100,7 @@ fn report_on_question<'a, T: Threads + Wait + Sync, P: Progress + Sync>(
     bytes: Vec<u8>,
     progress: &P,
 ) -> Report<'a>
+    requires { unison_question question ≡ None }
     ensures holds { told.Holds (about question) bytes.items result }
     ensures read { unread_by result ≡ None }
 {
@@ -152,7 +159,7 @@ fn contents_as<'a>(
 }
 
 /// What a bundle says with all of its sections, or the answer if it can't be read. Its bytes are dropped.
-fn own_contents<'a>(alloc: Global, bytes: Vec<u8>) -> Result<BundleContents, Report<'a>>
+pub(crate) fn own_contents<'a>(alloc: Global, bytes: Vec<u8>) -> Result<BundleContents, Report<'a>>
     ensures spelled { IfOk result (λ c. Spells bytes.items c) }
     ensures faulty { IfErr result (told.IsUnspelled bytes.items) }
     ensures read { IfErr result (λ r. unread_by r ≡ None) }

@@ -12,8 +12,10 @@
 //!
 //! From `test_serve/src/shown.rt`.
 //!
-//! - The words are read by `hub_cli`. The input is read by `hub_bundle`, with all of its sections (`answer`). By `--unison` the
-//!   readings of `hub_unison` stand in the place of its profiles (`reading`).
+//! - The words are read by `hub_cli`. The input is read by `hub_bundle`, with all of its sections (`answer`).
+//! - By `--unison` a check, what clashes and rounds are answered of the profiles as Unison may run them (`unison`): `hub_apart` searches
+//!   each two near ones and each with the rules, and what is answered of their lines is in `unison_clashes`. For `reach`, `import` and
+//!   `mend` the readings of `hub_unison` stand in the place of a bundle's profiles (`reading`).
 //! - The set of the profiles and rules is made, and is checked or its certificates are verified (`task`, `verdict`); or one
 //!   profile is asked whether it reaches a path (`reach`).
 //! - Or all that clashes in the set is listed or drawn, or it is cut into rounds (`rounds`). Or a bundle is written of what was read
@@ -28,7 +30,7 @@
 //!
 //! The contracts use the words of `specs/Serves` (what the program does as a whole), `specs/Told` (which answer is right),
 //! `specs/Shown` (what a first line shows), `specs/Reads` (the reads of the input), `specs/Unison` (what is spelled if the profiles
-//! are read for Unison), `specs/Mended` (what is spelled with lines that were found), `specs/Plans` (what a plan says), `specs/Task` (what is to be done), `specs/Runs`
+//! are read for Unison), `specs/InUnison` (what is answered of them as Unison may run them), `specs/Mended` (what is spelled with lines that were found), `specs/Plans` (what a plan says), `specs/Task` (what is to be done), `specs/Runs`
 //! (what is written of a run), `specs/ByRounds` (what a run by rounds does and leaves), `specs/InOrder` (what a run in order does and leaves) and `specs/Rounds` (what is written of
 //! clashes and rounds).
 //!
@@ -61,6 +63,9 @@ mod rounds;
 mod run;
 mod taken;
 mod task;
+mod unison;
+mod unison_clashes;
+mod unison_question;
 mod verdict;
 
 pub use program::{Served, serve, serve_and_tell, serve_process};

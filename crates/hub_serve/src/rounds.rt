@@ -77,10 +77,12 @@ pub fn report_on_graph<'a>(alloc: Global, set: &ProfileSet, reading: Reading) ->
 fn graph_of(alloc: Global, set: &ProfileSet, reading: Reading) -> Result<Graph, AllocError>
     ensures { IfOk result (λ g. DrawsClashes reading set.now (string_bytes g.text) g.safe) }
 {
+    let profiles = set.profiles();
     let clashes = clashes_of(alloc, set)?;
-    let archives = archives_as(alloc, reading, set.profiles())?;
-    let text = graph_of_clashes(alloc, set, &clashes, archives.as_slice())?;
-    let safe = clashes.lines().is_empty() && archives.is_empty();
+    let lines = clashes.lines();
+    let archives = archives_as(alloc, reading, profiles)?;
+    let text = graph_of_clashes(alloc, profiles, lines, archives.as_slice())?;
+    let safe = lines.is_empty() && archives.is_empty();
     Ok(Graph { text, safe })
 }
 
@@ -186,7 +188,8 @@ fn is_decided(lines: &[CheckFault], found: &Rounds) -> bool
     found.left.is_empty() && !has_too_large(lines)
 }
 
-fn has_too_large(lines: &[CheckFault]) -> bool
+/// Returns whether a line is that a goal was too large.
+pub(crate) fn has_too_large(lines: &[CheckFault]) -> bool
     ensures { result ≡ list_any rounds.is_too_large lines.now }
 {
     lines.iter().any(is_too_large)

@@ -46,8 +46,7 @@ abbrev dashed : List ℕ
 dashed = codes "    \"profile docs\" -- \"profile lists\" [color = red, style = dashed];\n"
 
 two_profiles_that_clash :
-    graph_text (record { profiles = docs ∷ lists ∷ []; rules = [] })
-    (overlap 0 1 (codes "docs/lists") ∷ []) []
+    graph_text (docs ∷ lists ∷ []) (overlap 0 1 (codes "docs/lists") ∷ []) []
     ≡ codes "graph clashes {\n    graph [rankdir = LR];\n"
     ++ (codes "    node [fontname = \"sans-serif\"];\n    edge [fontname = \"sans-serif\"];\n"
     ++ (codes "    \"profile docs\" [shape = box, label = \"docs\"];\n"
@@ -80,6 +79,13 @@ a_pair_that_is_too_large_is_dashed_once :
     joining_lines (docs ∷ lists ∷ []) (large_pair 0 1 ∷ large_pair 1 0 ∷ []) [] ≡ dashed
 unfolding computed
 a_pair_that_is_too_large_is_dashed_once = refl
+
+nested_roots_are_dashed :
+    joining_lines (docs ∷ lists ∷ [])
+    (fault.Missing (goal.Clash 0 1 (Replica Left)) ∷ large_pair 1 0 ∷ []) []
+    ≡ dashed
+unfolding computed
+nested_roots_are_dashed = refl
 
 -- the red line of two profiles that share an archive
 abbrev archive : List ℕ

@@ -123,9 +123,8 @@ fn above_last(text: &[u8]) -> &[u8] {
     text.get(..end).unwrap_or(text)
 }
 
-/// A bundle of the profiles that an overlap or a breach names, and of the rules: those of the input below an overlap, since beside rules
-/// the reading for Unison counts other lines, and below a breach the rule that may be broken. It is empty if not all lines of the input
-/// are there.
+/// A bundle of the profiles that an overlap or a breach names, and below a breach of the rule that may be broken: rules have no part in
+/// an overlap. It is empty if not all lines of the input are there.
 fn named_bundle(source: &Source<'_>, clash: &Refusal) -> Result<Vec<u8>, AllocError> {
     let mut bundle = Vec::new(source.alloc());
     if !source.is_whole() {
@@ -134,23 +133,12 @@ fn named_bundle(source: &Source<'_>, clash: &Refusal) -> Result<Vec<u8>, AllocEr
     for heading in named_profiles(source, clash)? {
         push_lines(&mut bundle, source.section_lines(heading.section))?;
     }
-    match broken_rule(source, clash) {
-        Some((root, rule)) => {
-            bundle.extend_from_slice(b"%rules\n")?;
-            push_line(&mut bundle, root)?;
-            push_line(&mut bundle, rule)?;
-        }
-        None => push_lines(&mut bundle, rules_section(source))?,
+    if let Some((root, rule)) = broken_rule(source, clash) {
+        bundle.extend_from_slice(b"%rules\n")?;
+        push_line(&mut bundle, root)?;
+        push_line(&mut bundle, rule)?;
     }
     Ok(bundle)
-}
-
-/// The lines of the rules, their heading first. There are none if there is no such section.
-fn rules_section<'s, 'a>(source: &'s Source<'a>) -> &'s [SourceLine<'a>] {
-    match source.section("%rules") {
-        Some(section) => source.section_lines(section),
-        None => &[],
-    }
 }
 
 /// Adds these lines to a bundle.

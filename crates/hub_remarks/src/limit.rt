@@ -1,6 +1,5 @@
 //! Lines that are left out for a limit, where a profile is read for Unison.
 
-use hub_notes::is_rule;
 use hub_path::Name;
 use hub_preferences::counted;
 use hub_profile::{PATTERN_LINES, Profile, read_profile};
@@ -9,11 +8,11 @@ use hub_unison::lines_cut;
 use std::alloc::{AllocError, Global};
 
 /// The numbers of the `ignore` lines of an input that don't count, since with those for a dot at the start of a name a limit would be
-/// passed. Beside rules no `ignore` line counts, so there are none.
+/// passed.
 pub(crate) fn cut_lines(source: &Source<'_>, input: &[u8]) -> Result<Vec<usize>, AllocError> {
     let alloc = source.alloc();
     let mut numbers = Vec::new(alloc);
-    if !source.is_whole() || has_rules(source) || !may_be_cut(source)? {
+    if !source.is_whole() || !may_be_cut(source)? {
         return Ok(numbers);
     }
     let bytes = counted(alloc, input)?;
@@ -22,14 +21,6 @@ pub(crate) fn cut_lines(source: &Source<'_>, input: &[u8]) -> Result<Vec<usize>,
         push_cut(&mut numbers, &counted, heading.section)?;
     }
     Ok(numbers)
-}
-
-/// Returns whether there is a rule.
-pub(crate) fn has_rules(source: &Source<'_>) -> bool {
-    match source.section("%rules") {
-        Some(section) => source.section_lines(section).iter().any(is_rule),
-        None => false,
-    }
 }
 
 /// Returns whether some line may be left out for a limit: a profile has more lines with patterns than half of those that may be read,

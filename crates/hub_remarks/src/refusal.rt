@@ -1,7 +1,6 @@
 //! Remarks on sets that are refused: the lines that make it so.
 
 use crate::clash::Mending;
-use crate::limit::has_rules;
 use crate::nested::say_other_nested;
 use crate::proposed::{say_alone, say_taken_away};
 use hub_notes::{has_no_path, is_rule, is_same_root, line_above};
@@ -13,6 +12,10 @@ use std::alloc::AllocError;
 /// Said of two profiles that share an archive.
 const SAME_ARCHIVE: &str =
     "run one after the other: Unison has one archive for both, and two runs at once bring deleted files back";
+
+/// Said of two profiles with nested roots.
+const NESTED_PROFILES: &str =
+    "run one after the other, as rounds does: hubsync doesn't compare paths of roots that lie within one another";
 
 /// Says which lines a refusal is about, and what to do.
 pub(crate) fn say_refusal(
@@ -51,17 +54,18 @@ fn say_refused(out: &mut String, source: &Source<'_>, refusal: &Refusal) -> Said
             "a profile's paths and patterns have at most 4,096 beginnings",
         ),
         Refusal::SameArchive { .. } => say(out, SAME_ARCHIVE),
+        Refusal::NestedProfiles { .. } => say(out, NESTED_PROFILES),
         Refusal::TooLarge => say(out, "nothing is known: fewer * in patterns would help"),
         _ => say_certificates(out, source),
     }
 }
 
-/// Says what keeps two profiles apart that overlap. Beside rules the reading for Unison counts no `ignore` line and no bar on paths.
+/// Says what keeps two profiles apart that overlap.
 fn say_parting(out: &mut String, source: &Source<'_>, mending: Mending<'_>) -> Said {
     match mending {
         Mending::Lines(lines) => say_parting_lines(out, source, lines),
         Mending::SameArchive => say(out, SAME_ARCHIVE),
-        Mending::Unknown if !has_rules(source) => say(
+        Mending::Unknown => say(
             out,
             "run one after the other, or give one other paths, an ignore or a bar",
         ),

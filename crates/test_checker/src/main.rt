@@ -17,7 +17,9 @@
 //! - `check SET`: what `check` says of the set.
 //! - `clashes SET`: what each goal of the set shows, if it isn't ruled out (`rounds`).
 //! - `rounds SET`: the profiles of each round, then those that are in none, and how many rounds are needed.
-//! - `apart SET`: the same where roots of profiles are nested; `not apart` if that isn't all that keeps these from being a set.
+//! - `numbers SET`: the numbers of the profiles of each round, by the lines of `clashes`, and the rest as of `rounds`.
+//! - `unison SET`: the lines of the profiles in Unison, by who writes; or why there are none.
+//! - `apart SET`: the same as `rounds` where roots of profiles are nested; `not apart` if that isn't all that keeps these from being a set.
 //!
 //! A fault is shown as `faults` says. Tests in a table that is read cost no proof, as tests in code do.
 #![tactic(auto)]
@@ -66,6 +68,8 @@ fn answer(alloc: Global, word: &str, fields: &str) -> Result<String> {
         "check" => searches::check_answer(alloc, fields),
         "clashes" => rounds::clashes_answer(alloc, fields),
         "rounds" => rounds::rounds_answer(alloc, fields),
+        "numbers" => rounds::numbers_answer(alloc, fields),
+        "unison" => rounds::unison_answer(alloc, fields),
         "apart" => rounds::apart_answer(alloc, fields),
         _ => subjects::answer(alloc, word, fields),
     }

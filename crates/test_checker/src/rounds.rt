@@ -2,11 +2,12 @@
 use crate::faults::fault_text;
 use crate::sets::{members_of, set_of};
 use anyhow::{Result, bail};
-use hub_apart::{Apart, are_put_apart, lines_apart};
+use hub_apart::{Apart, are_put_apart, lines_apart, lines_in_unison};
 use hub_cert::CheckFault;
 use hub_profile::{Profile, Rules};
 use hub_rounds::{
-    Clashes, Obstacle, Placed, Placing, Rounds, RoundsFault, clashes_of, rounds_by_lines, rounds_of,
+    NumberedRounds, Obstacle, Placed, Placing, Rounds, RoundsFault, clashes_of, rounds_by_lines,
+    rounds_of, rounds_of_lines,
 };
 use hub_text::Items;
 use std::alloc::{AllocError, Global};
@@ -16,19 +17,14 @@ use test_kit::{joined, shown};
 pub(crate) fn clashes_answer(alloc: Global, fields: &str) -> Result<String> {
     let set = set_of(alloc, fields)?;
     let clashes = clashes_of(alloc, &set)?;
-    clashes_text(alloc, &clashes)
+    lines_text(alloc, clashes.lines())
 }
 
-fn clashes_text(alloc: Global, clashes: &Clashes) -> Result<String> {
-    if clashes.lines().is_empty() {
+fn lines_text(alloc: Global, lines: &[CheckFault]) -> Result<String> {
+    if lines.is_empty() {
         return shown(alloc, &"nothing");
     }
-    joined(
-        alloc,
-        clashes.lines(),
-        " / ",
-        |line| Ok(fault_text(alloc, line)?),
-    )
+    joined(alloc, lines, " / ", |line| Ok(fault_text(alloc, line)?))
 }
 
 /// The profiles of each round, how many rounds are needed, and who is in none, where roots of profiles may be nested; or `not apart`
@@ -68,6 +64,46 @@ pub(crate) fn rounds_answer(alloc: Global, fields: &str) -> Result<String> {
     let set = set_of(alloc, fields)?;
     let clashes = clashes_of(alloc, &set)?;
     made_text(alloc, &rounds_of(alloc, Box::into_inner(set), &clashes))
+}
+
+/// The numbers of each round, how many rounds are needed, and which are in none.
+pub(crate) fn numbers_answer(alloc: Global, fields: &str) -> Result<String> {
+    let set = set_of(alloc, fields)?;
+    let clashes = clashes_of(alloc, &set)?;
+    let rounds = rounds_of_lines(alloc, set.profiles().len(), clashes.lines())?;
+    Ok(numbers_text(alloc, &rounds)?)
+}
+
+fn numbers_text(alloc: Global, rounds: &NumberedRounds) -> Result<String, AllocError> {
+    let mut said = Vec::new(alloc);
+    for round in rounds.rounds.as_slice() {
+        said.push(list_text(alloc, round.as_slice())?)?;
+    }
+    for left in rounds.left.as_slice() {
+        let number = left.number;
+        let reason = left.reason;
+        said.push(format!(in alloc; "{number} {reason:?}")?)?;
+    }
+    let rivals = list_text(alloc, rounds.rivals.as_slice())?;
+    said.push(format!(in alloc; "at least {rivals}")?)?;
+    said.as_slice().join(alloc, " | ")
+}
+
+fn list_text(alloc: Global, numbers: &[usize]) -> Result<String, AllocError> {
+    let mut texts = Vec::new(alloc);
+    for number in numbers {
+        texts.push(format!(in alloc; "{number}")?)?;
+    }
+    texts.as_slice().join(alloc, " ")
+}
+
+/// The lines of the profiles in Unison, by who writes; or why there are none.
+pub(crate) fn unison_answer(alloc: Global, fields: &str) -> Result<String> {
+    let (profiles, rules) = members_of(alloc, fields)?;
+    match lines_in_unison(alloc, profiles, rules) {
+        Ok(found) => lines_text(alloc, found.by_writer()?.lines.as_slice()),
+        Err(fault) => Ok(fault_text(alloc, &fault)?),
+    }
 }
 
 fn made_text(alloc: Global, made: &Result<Rounds, RoundsFault>) -> Result<String> {

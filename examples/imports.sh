@@ -5,9 +5,11 @@
 #
 # PROGRAM is the built program (crates/hubsync/out/hubsync if left out). Asked about are the inputs of answers/unison.txt and
 # answers/imports.txt, the profiles of office/ and manual/, each by itself and all of a folder, also with rules, and profiles at random.
-# `check` and `clashes` of what was imported answer as the same command with `--unison` does, with the same status. They are asked with
-# `--unison` too where two profiles share an archive, which the plain answers don't ask about; so are `rounds`. So does `verify` of
-# certificates for it, if it is safe. A fault is the same. What is imported again has the same answer, and if it ignores nothing it is the
+# `check` and `clashes` of what was imported answer as the same command with `--unison` does, with the same status, but for the paths that
+# they show, which are of another alphabet. A bundle is one set, though, and `--unison` decides part by part: where there are rules, the
+# answer with `--unison` is safe if that of the bundle is, and a bundle refused for nested roots isn't compared. They are asked with
+# `--unison` too where two profiles share an archive, which the plain answers don't ask about; so are `rounds`. `verify` of certificates
+# for it answers too, if it is safe. A fault is the same. What is imported again has the same answer, and if it ignores nothing it is the
 # same, byte for byte. A line is printed for each that is wrong. The status is 1 if there was one, else 0.
 set -euo pipefail
 if [ "${1:-}" = --help ]; then
@@ -41,6 +43,21 @@ compare() {
     cmp -s "$room/$2" "$room/$3" || complain "$1: $(diff -a "$room/$2" "$room/$3" | sed -n '2{p;q}')"
 }
 
+# Compares two answers but for the paths that they show, if what was imported is decided as the profiles with `--unison` are.
+#
+#     compare_answers WHAT FILE FILE
+compare_answers() {
+    local each
+    ! grep -aq '^refused: NestedRoots ' "$room/$2" "$room/$3" || return 0
+    if grep -q '^%rules$' "$room/imported" && ! grep -qx safe "$room/$3"; then
+        return 0
+    fi
+    for each in "${@:2}"; do
+        sed -E 's/^(overlap: [^ ]+) writes .* at (\/.*), ([^ ]+) reaches .*$/\1 at \2, \3/' "$room/$each" >"$room/$each.pathless"
+    done
+    compare "$1" "$2.pathless" "$3.pathless"
+}
+
 # Compares the answers for Unison with those to what is imported. The words name files, or the input is the file `bundle`.
 #
 #     ask PLACE WORD..
@@ -64,7 +81,7 @@ ask() {
         answer wanted "$command" --unison "$@"
         cp "$room/imported" "$room/input"
         answer got "$command" "${reading[@]}"
-        compare "$place: $command" wanted got
+        compare_answers "$place: $command" wanted got
     done
     ask_again "$place"
     ask_certificates "$place"
@@ -74,9 +91,9 @@ ask() {
 ask_again() {
     cp "$room/imported" "$room/input"
     if grep -q '^ignore' "$room/imported"; then
-        answer wanted check
-        answer got check --unison
-        compare "$1: imported again" wanted got
+        answer got check
+        answer wanted check --unison
+        compare_answers "$1: imported again" wanted got
     else
         "$program" import <"$room/input" >"$room/again" 2>/dev/null || true
         compare "$1: imported again" imported again

@@ -7,7 +7,7 @@
 # answers/imports.txt, the profiles of office/ and manual/, each by itself and all of a folder, also with rules, and profiles at random.
 # `check` and `clashes` of what was imported answer as the same command with `--unison` does, with the same status, but for the paths that
 # they show, which are of another alphabet. A bundle is one set, though, and `--unison` decides part by part: where there are rules, the
-# answer with `--unison` is safe if that of the bundle is, and a bundle refused for nested roots isn't compared. They are asked with
+# answer with `--unison` is safe if that of the bundle is, and else of the same kind; a bundle refused for nested roots isn't compared. They are asked with
 # `--unison` too where two profiles share an archive, which the plain answers don't ask about; so are `rounds`. `verify` of certificates
 # for it answers too, if it is safe. A fault is the same. What is imported again has the same answer, and if it ignores nothing it is the
 # same, byte for byte. A line is printed for each that is wrong. The status is 1 if there was one, else 0.
@@ -43,14 +43,26 @@ compare() {
     cmp -s "$room/$2" "$room/$3" || complain "$1: $(diff -a "$room/$2" "$room/$3" | sed -n '2{p;q}')"
 }
 
+# Compares two answers beside rules, of which the second isn't safe: one is a fault, a refusal or a number of rounds if the other is. The
+# first may be safe, or have fewer rounds or other lines.
+compare_kinds() {
+    local each
+    for each in "${@:2}"; do
+        sed -E 's/^(safe|overlap: .*|breach: .*|same archive: .*)$/an answer/; s/^(rounds) .*$/\1/; s/^status [01]$/answered/' "$room/$each" |
+            grep -aE '^(an answer|rounds|fault|refused|answered|status)' | sort -u >"$room/$each.kind"
+    done
+    compare "$1" "$2.kind" "$3.kind"
+}
+
 # Compares two answers but for the paths that they show, if what was imported is decided as the profiles with `--unison` are.
 #
 #     compare_answers WHAT FILE FILE
 compare_answers() {
     local each
-    ! grep -aq '^refused: NestedRoots ' "$room/$2" "$room/$3" || return 0
+    ! grep -aq '^refused: NestedRoots ' "$room/$3" || return 0
     if grep -q '^%rules$' "$room/imported" && ! grep -qx safe "$room/$3"; then
-        return 0
+        compare_kinds "$@"
+        return
     fi
     for each in "${@:2}"; do
         sed -E 's/^(overlap: [^ ]+) writes .* at (\/.*), ([^ ]+) reaches .*$/\1 at \2, \3/' "$room/$each" >"$room/$each.pathless"

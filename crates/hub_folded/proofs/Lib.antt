@@ -9,3 +9,13 @@ mod Safe
 mod Places
 mod Texts
 mod Known
+mod Names
+mod TopValues
+mod LastName
+mod Lists
+mod LineText
+mod PiecesKnown
+mod KnownParts
+mod FoldedName
+mod FoldedPieces
+mod FoldedParts

@@ -3,7 +3,8 @@ use Rattle.std.proofs.Common.{◌≡◌, true, false, List, map}
 use Rattle.std.specs.Prelude.{if◌then◌else◌, Result, Ok, Err, IfOk}
 use Rattle.hub_profile.specs.declared.rule.Rule.{Rule}
 use Rattle.hub_folded.specs.Fold.{Folding}
-use Rattle.hub_folded.specs.Lines.{Member, folded_member, folded_rules, folded_set, fold_rule, some_fold}
+use Rattle.hub_folded.specs.declared.member.Member.{Member}
+use Rattle.hub_folded.specs.Lines.{folded_member, folded_rules, folded_set, fold_rule, some_fold}
 
 module _ (F : Folding) (Ms : List Member) where
   pub plain-set : some_fold Ms ≡ false → folded_set F Ms ≡ map (λ M. M.parts) Ms

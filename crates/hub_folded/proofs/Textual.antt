@@ -16,7 +16,8 @@ use Rattle.hub_folded.specs.Ranges.{ranges}
 use Rattle.hub_folded.specs.Row.{Range, Row}
 use Rattle.hub_folded.specs.Rows.{rows}
 use Rattle.hub_folded.specs.Table.{by_rows, folding_by, has_row, in_ranges, is_ascii, unicode}
-use Rattle.hub_folded.specs.Lines.{Member, are_over, fold_spec, folded, folded_member, folded_paths, folded_specs, folded_tops, highest, knows_line, may_ignore, spread, top_of}
+use Rattle.hub_folded.specs.declared.member.Member.{Member}
+use Rattle.hub_folded.specs.Lines.{are_over, fold_spec, folded, folded_member, folded_paths, folded_specs, folded_tops, highest, knows_line, may_ignore, spread, top_of}
 use Rattle.hub_folded.proofs.Paths.{no}
 
 -- What a lower letter is.

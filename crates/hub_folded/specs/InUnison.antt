@@ -13,7 +13,8 @@ use Rattle.hub_unison.specs.Rules.{may_item}
 use Rattle.hub_unison.specs.UnisonReach.{reach_by, write_by, written_roots}
 use Rattle.hub_unison.specs.Written.{IsWrittenAs, Written}
 use Rattle.hub_folded.specs.Fold.{Folding, fold_name, knows}
-use Rattle.hub_folded.specs.Lines.{Member, fold_spec, knows_line, line_of}
+use Rattle.hub_folded.specs.declared.member.Member.{Member}
+use Rattle.hub_folded.specs.Lines.{fold_spec, knows_line, line_of}
 
 -- What Unison folds by: what it makes of a name, and of a line that matches paths. A line is
 -- matched with folded paths as the text that it is folded to would be matched.

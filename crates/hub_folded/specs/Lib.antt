@@ -4,6 +4,8 @@ pub mod Rows
 pub mod Ranges
 pub mod Table
 pub mod Lines
+pub mod Pieces
+pub mod OneLine
 pub mod InUnison
 pub mod Read
 pub mod Seen

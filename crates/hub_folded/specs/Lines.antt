@@ -1,5 +1,5 @@
 -- The lines of profiles, folded: a reading that comes before all others.
-use Rattle.std.specs.Prelude.{ℕ, Bool, true, false, not, ◌&&◌, ◌||◌, ◌==◌, nat_lt, List, [], ◌∷◌, ◌++◌, map, codes, if◌then◌else◌}
+use Rattle.std.specs.Prelude.{ℕ, Bool, true, false, not, ◌&&◌, ◌||◌, ◌==◌, nat_lt, List, [], ◌∷◌, ◌++◌, map, codes, Option, Some, None, if◌then◌else◌}
 use Rattle.std.specs.List.{list_any, list_all, filter, flat_map}
 use Rattle.hub_path.specs.Path.{Path, is_over}
 use Rattle.hub_glob.specs.declared.piece.Piece.{Piece}
@@ -17,6 +17,7 @@ use Rattle.hub_profile.specs.declared.rule.Rule.{Rule}
 use Rattle.hub_unison.specs.Lines.{LineText, line_spec}
 use Rattle.hub_unison.specs.Matching.{is_odd}
 use Rattle.hub_unison.specs.ReadingOf.{cut_value, topmost}
+use Rattle.hub_folded.specs.declared.member.Member.{Member}
 use Rattle.hub_folded.specs.Fold.{Folding, fold_name, fold_path, is_bare, is_upper, knows, knows_path}
 
 -- Unison folds the text of a pattern, and then matches it with the folded path (observed with
@@ -64,6 +65,9 @@ line_of s = codes "ignore = " ++ spec_text s
 
 abbrev pub is_spelled : Specification → Bool
 is_spelled s = some_passes (λ t. tested.eq-value.it t s) (line_spec (line_of s))
+
+abbrev pub if_spelled : Specification → Option Specification
+if_spelled s = if is_spelled s then Some s else None
 
 -- It is known what a line with this specification folds to, and a line can say it.
 abbrev pub knows_line : Folding → Specification → Bool
@@ -160,11 +164,6 @@ folded F P =
 -- of a folded path, so nothing is ignored, and there are no bars on paths.
 abbrev pub spread : Folding → Parts → Parts
 spread F P = record P { paths = folded_tops F P.paths; ignore = []; ignorenot = []; partial = [] }
-
--- A profile, and whether its host's names fold.
-pub record Member : Type 0 where
-  pub folds : Bool
-  pub parts : Parts
 
 abbrev pub folded_member : Folding → Member → Parts
 folded_member F M = if M.folds then folded F M.parts else spread F M.parts

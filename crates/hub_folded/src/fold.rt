@@ -1,5 +1,5 @@
 //! Names, folded in Unicode mode.
-ghost use Rattle.std.specs.Prelude.{◌≡◌, ◌==◌, ◌||◌, [], ◌∷◌, IfOk, IfSome, IfNone, chars, string_bytes, encode_utf8_all};
+ghost use Rattle.std.specs.Prelude.{◌≡◌, ◌==◌, ◌||◌, [], ◌∷◌, ◌++◌, IfOk, IfSome, IfNone, chars, string_bytes, encode_utf8_all};
 ghost use Rattle.std.specs.List.{list_any};
 ghost use Rattle.hub_glob.specs.Writing.{AppendsText};
 ghost use Rattle.hub_folded.specs.Fold as fold;
@@ -13,6 +13,7 @@ use crate::high::HIGH_RANGES;
 use crate::marks::{FOURTH, SECOND, THIRD};
 use crate::ranges::RANGES;
 use crate::table::{CHARACTERS, FIRST};
+use hub_text::Items;
 use std::alloc::{AllocError, Global};
 
 /// Returns what a name folds to in Unicode mode. If it is known, Unison with `ignorecase = true` takes two names for one exactly when
@@ -38,6 +39,30 @@ fn push_folded(text: &mut String, c: char) -> Result<(), AllocError>
         Some(image) => push_image(text, &image),
         None => text.push(c),
     }
+}
+
+/// Appends what a character folds to.
+pub(crate) fn push_characters(list: &mut Items<char>, c: char) -> Result<(), AllocError>
+    ensures { IfOk result (λ _. list.new ≡ list.old ++ folded_character c) }
+{
+    if c.is_ascii() {
+        return Ok(list.push(c.to_ascii_lowercase())?);
+    }
+    match image_of(c) {
+        Some(image) => push_all_shown(list, &image),
+        None => Ok(list.push(c)?),
+    }
+}
+
+fn push_all_shown(list: &mut Items<char>, image: &[char]) -> Result<(), AllocError>
+    ensures { IfOk result (λ _. list.new ≡ list.old ++ image_in image.now) }
+{
+    for c in image {
+        if *c != '\0' {
+            list.push(*c)?;
+        }
+    }
+    Ok(())
 }
 
 /// What the table has a character fold to, where each `\0` stands for none, if it has a row for it.
@@ -84,13 +109,13 @@ pub fn knows(name: &str) -> bool
 }
 
 /// Returns whether a character is known, and follows a bare letter if it is a mark.
-fn stands(c: char, bare: bool) -> bool
+pub(crate) fn stands(c: char, bare: bool) -> bool
     ensures { result ≡ table.stands c bare }
 {
     is_known(c) && (!is_combining(c) || bare)
 }
 
-fn is_known(c: char) -> bool
+pub(crate) fn is_known(c: char) -> bool
     ensures { result ≡ table.knows_character c }
 {
     if c.is_ascii() {
@@ -130,7 +155,7 @@ fn is_combining(c: char) -> bool
 }
 
 /// Returns whether a character is no mark, and folds to one character.
-fn is_bare_letter(c: char) -> bool
+pub(crate) fn is_bare_letter(c: char) -> bool
     ensures { result ≡ table.is_bare_letter c }
 {
     !is_combining(c) && is_single(c)

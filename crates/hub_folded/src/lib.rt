@@ -22,6 +22,9 @@
 //! # What is proved
 //!
 //! - [`fold_name`] returns what `unicode` makes of a name, or is out of memory. [`knows`] returns whether `unicode` knows the name.
+//! - [`fold_spec`] returns what `unicode` makes of a specification, if that is known and a line can say it. [`known_folded`],
+//!   [`all_folded`] and [`folded_bars`] do so for the lines of a profile. [`folded_values`] and [`tops_of`] fold its kept values; what a
+//!   known name folds to is a name. [`spread`] returns the folded lines of a profile of a host whose names don't fold.
 //! - [`read_folded_set`] returns readings that hold for a set, if it is given the folded profiles and rules of the set.
 //! - What Unison folds by is any function of names and any function of the texts of lines. No more is assumed of them than what
 //!   they make of known names and of known lines (`IsNormOf`). The folding itself is such a one (`a_folding_is_met`), so no law
@@ -34,7 +37,8 @@
 //!
 //! # What is not
 //!
-//! No code makes folded profiles and rules: `folded`, `spread` and `fold_rule` of `specs/Lines` are definitions.
+//! No code makes the folded lines of a profile of a host whose names fold, nor folded rules: `folded` and `fold_rule` of `specs/Lines`
+//! are definitions.
 //! That Unison folds so: that was observed with Unison 2.52.1, name by name for all characters below U+20000. Anything of names
 //! that fold to nothing, to dots or to a forbidden character, and of disks that take two names as one that Unison takes as two.
 //! That the text of a folded pattern spells the folded specification. The table is data, which `tools/fold-table` writes.
@@ -43,10 +47,22 @@
 mod fold;
 mod high;
 pub mod laws;
+mod line;
+mod lines;
 mod marks;
+mod member;
+mod pattern;
+mod pieces;
+mod profile;
 mod ranges;
 mod set;
 mod table;
+mod tops;
+mod values;
 
 pub use fold::{fold_name, knows};
+pub use lines::{all_folded, fold_spec, folded_bars, known_folded};
+pub use member::{Member, some_fold};
+pub use profile::spread;
 pub use set::read_folded_set;
+pub use values::{folded_values, tops_of};

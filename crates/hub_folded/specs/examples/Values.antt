@@ -21,7 +21,8 @@ use Rattle.hub_folded.specs.Ranges.{ranges}
 use Rattle.hub_folded.specs.Rows.{rows}
 use Rattle.hub_folded.specs.Row.{row}
 use Rattle.hub_folded.specs.Table.{folding_by, unicode}
-use Rattle.hub_folded.specs.Lines.{Member, fold_spec, folded, folded_set, is_foldable, knows_line, knows_set, line_of, spread}
+use Rattle.hub_folded.specs.declared.member.Member.{Member}
+use Rattle.hub_folded.specs.Lines.{fold_spec, folded, folded_set, is_foldable, knows_line, knows_set, line_of, spread}
 use Rattle.hub_folded.specs.InUnison.{FoldedClash, Lined, Norm, norm_of, norm_path, reach_at}
 
 -- What these examples compute.

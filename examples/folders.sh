@@ -776,6 +776,110 @@ hubsync: operands/none can't be read: No such file or directory (os error 2)
 LINES
 }
 
+# Profiles of other machines: how they are named, where their roots are, which machines can't be asked about, and folders whose names
+# have an equals sign.
+try_machines() {
+    put machines/table 'pc /hosts/pc' 'laptop /hosts/laptop' 'hub /'
+    put machines/pc/docs.prf 'root = /home/anna' 'root = ssh://hub//srv/docs' 'path = a' 'force = /home/anna' \
+        'nodeletionpartial = Path a/b -> /home/anna'
+    put machines/laptop/docs.prf 'root = /home/anna' 'root = ssh://hub//srv/photos' 'path = a'
+    ask 0 rounds --unison pc=machines/pc laptop=machines/laptop --hosts machines/table <<LINES
+rounds 1
+at least 1
+round 1 pc=docs
+round 1 laptop=docs
+$assumed
+LINES
+    ask 0 import pc=machines/pc laptop=machines/laptop/docs.prf --hosts machines/table <<LINES
+%profile pc=docs
+root = /hosts/pc/home/anna
+root = /srv/docs
+path = a
+force = /hosts/pc/home/anna
+nodeletionpartial = Path a/b -> /hosts/pc/home/anna
+%profile laptop=docs
+root = /hosts/laptop/home/anna
+root = /srv/photos
+path = a
+$assumed
+LINES
+    ask 0 plan pc=machines/pc laptop=machines/laptop --hosts machines/table <<LINES
+plan 1
+profile 1 pc=docs
+profile 2 laptop=docs
+root 1 /hosts/pc/home/anna
+root 1 /srv/docs
+root 2 /hosts/laptop/home/anna
+root 2 /srv/photos
+order 1 2
+$assumed
+LINES
+    put machines/laptop/docs.prf 'root = /home/anna' 'root = ssh://hub//srv/docs' 'path = a'
+    ask 1 check --unison pc=machines/pc laptop=machines/laptop --hosts machines/table <<LINES
+overlap: pc=docs writes a at /srv/docs, laptop=docs reaches a
+hubsync: pc=docs (machines/pc/docs.prf line 3): path = a
+hubsync: laptop=docs (machines/laptop/docs.prf line 3): path = a
+hubsync: run one after the other, or give one other paths, an ignore or a bar
+$wider
+hubsync: without --unison: overlap: pc=docs writes a at /srv/docs, laptop=docs reaches a
+LINES
+    put machines/wrong/docs.prf 'root = /home/anna' 'root = ssh://hub//srv/docs' 'follow = Path a'
+    ask 2 check --unison pc=machines/pc laptop=machines/wrong --hosts machines/table <<LINES
+fault: profile laptop=docs line 3: UnknownPreference follow
+hubsync: machines/wrong/docs.prf line 3: follow = Path a
+hubsync: hubsync has no answer for a profile with this line: let it run by itself, when no other profile runs, also by hand
+LINES
+    ask 2 check --unison pc=machines/pc machines/laptop PC=machines/laptop --hosts machines/table <<LINES
+fault: PC=machines/laptop: SecondMachine
+hubsync: another operand has this machine: name each machine once, with one folder or file
+LINES
+    ask 2 check --unison pc=machines/pc <<LINES
+fault: pc=machines/pc: UnknownHost
+hubsync: add --hosts FILE, where FILE has this line, with the path of its / here:
+hubsync:     pc /hosts/pc
+LINES
+    put machines/homes 'pc~ /hosts/pc/home/anna' 'hub /'
+    ask 2 check --unison pc=machines/pc --hosts machines/homes <<LINES
+fault: pc=machines/pc: UnknownHost
+hubsync: add this line to the table of --hosts, with the path of its / here:
+hubsync:     pc /hosts/pc
+LINES
+    echo '    pc /hosts/pc' >>machines/homes
+    ask 0 check --unison pc=machines/pc --hosts machines/homes <<LINES
+safe
+$assumed
+LINES
+    ask 0 check --unison pc:22=machines/pc --hosts machines/homes <<LINES
+safe
+$assumed
+LINES
+    ask 2 check --unison 'my pc=machines/pc' --hosts machines/homes <<LINES
+fault: my pc=machines/pc: UnknownHost
+hubsync: no line of a table of hosts names my pc: write a host's name before the =
+LINES
+    put_profile a=b/docs.prf 'path = docs'
+    ask 0 rounds --unison ./a=b <<LINES
+rounds 1
+at least 1
+round 1 docs
+$assumed
+LINES
+    ask 0 rounds a=b/docs.prf <<LINES
+rounds 1
+at least 1
+round 1 docs
+LINES
+    ask 2 rounds --unison a=b --hosts machines/table <<LINES
+fault: b: ReadFailed
+hubsync: b can't be read: No such file or directory (os error 2)
+LINES
+    ask 2 rounds --unison a=a=b --hosts machines/table <<LINES
+fault: a=a=b: UnknownHost
+hubsync: add this line to the table of --hosts, with the path of its / here:
+hubsync:     a /hosts/a
+LINES
+}
+
 # All profiles of an office, and of the samples in Unison's manual, each by one call.
 try_whole() {
     local each command
@@ -897,6 +1001,7 @@ try_verbose
 try_hosts
 try_archives
 try_operands
+try_machines
 try_whole
 try_each
 try_refused

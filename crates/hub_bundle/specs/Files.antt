@@ -29,6 +29,14 @@ without_ending base =
 abbrev pub profile_name : List ℕ → List ℕ
 profile_name path = without_ending (base_of path)
 
+-- What stands before the name of a profile that a machine has: `NAME=`. A name has no `/`.
+abbrev pub machine_mark : Option (List ℕ) → List ℕ
+machine_mark None = []
+machine_mark (Some machine) = machine ++ codes "="
+
+abbrev pub part_machine : Part → Option (List ℕ)
+part_machine p = option_map (λ machine. machine.now) p.machine
+
 -- How the heading of a section begins.
 abbrev pub heading_word : Kind → List ℕ
 heading_word Profile = codes "%profile "
@@ -37,11 +45,14 @@ heading_word State = codes "%state"
 heading_word Certificates = codes "%certificates"
 
 -- The name in the heading: only that of a profile has one.
-abbrev pub heading_name : Kind → List ℕ → List ℕ
-heading_name Profile path = profile_name path
-heading_name Rules path = []
-heading_name State path = []
-heading_name Certificates path = []
+abbrev pub heading_name : Kind → Option (List ℕ) → List ℕ → List ℕ
+heading_name Profile machine path = machine_mark machine ++ profile_name path
+heading_name Rules machine path = []
+heading_name State machine path = []
+heading_name Certificates machine path = []
+
+abbrev pub part_name : Part → List ℕ
+part_name p = heading_name p.kind (part_machine p) p.file.now
 
 -- Whether the last line has no LF.
 abbrev pub lacks_end : List ℕ → Bool
@@ -53,8 +64,7 @@ line_end bytes = if lacks_end bytes then 10 ∷ [] else []
 
 -- A section: its heading's line, and the lines of the file.
 abbrev pub part_text : Part → List ℕ
-part_text p = heading_word p.kind ++ heading_name p.kind p.file.now ++ 10 ∷ p.bytes.now
-    ++ line_end p.bytes.now
+part_text p = heading_word p.kind ++ part_name p ++ 10 ∷ p.bytes.now ++ line_end p.bytes.now
 
 -- The bundle: the sections in the order of the files.
 abbrev pub bundle_of : List Part → List ℕ
@@ -80,7 +90,7 @@ heading_fault (Some n) = Some (HasHeading n)
 -- Why a file can't be a section: its name, or a line that would begin another section.
 abbrev pub part_fault : Part → Option PartFault
 part_fault p =
-    if has_break (heading_name p.kind p.file.now) then Some BadName
+    if has_break (part_name p) then Some BadName
     else heading_fault (heading_line (lines_of p.bytes.now))
 
 -- The number of the first of these files that can't be a section, from 0 on.

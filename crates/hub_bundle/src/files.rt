@@ -3,7 +3,7 @@ ghost use Rattle.std.specs.Prelude.{◌≡◌, ◌++◌, ◌⊎◌, IfErr, IfOk,
 ghost use Rattle.hub_bundle.specs.Files as files;
 ghost use Rattle.hub_bundle.specs.declared.files.FilesFault.TheVariants.{OutOfMemory};
 
-use crate::part::{Part, heading_name, heading_word, part_fault};
+use crate::part::{Part, heading_word, part_fault, push_heading_name};
 use std::alloc::{AllocError, Global};
 
 /// Why no bundle is made of some files.
@@ -58,7 +58,7 @@ fn push_part(bundle: &mut Vec<u8>, part: &Part<'_>) -> Result<(), AllocError>
     ensures { OnOk result (bundle.new.items ≡ bundle.old.items ++ files.part_text part.now) }
 {
     bundle.extend_from_slice(heading_word(part.kind))?;
-    bundle.extend_from_slice(heading_name(part))?;
+    push_heading_name(bundle, part)?;
     bundle.push(b'\n')?;
     bundle.extend_from_slice(part.bytes)?;
     if lacks_end(part.bytes) {

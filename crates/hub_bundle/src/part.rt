@@ -1,10 +1,12 @@
 //! Files, each with the section that it is for.
-ghost use Rattle.std.specs.Prelude.{◌≡◌, ◌+◌, ◌≤◌, length};
+ghost use Rattle.std.specs.Prelude.{◌≡◌, ◌+◌, ◌++◌, ◌≤◌, length, OnOk};
+ghost use Rattle.std.specs.Option.{option_map};
 ghost use Rattle.hub_text.specs.Lines.{lines_of};
 ghost use Rattle.hub_bundle.specs.Files as files;
 
 use crate::name::profile_name;
 use hub_text::Lines;
+use std::alloc::AllocError;
 
 /// What a file has.
 #[derive(Clone, Copy, Debug, PartialEq, Eq)]
@@ -26,6 +28,8 @@ pub struct Part<'a> {
     pub kind: Kind,
     /// Its path. The profile `docs` is in `docs.prf`, in whatever folder.
     pub file: &'a str,
+    /// The machine that has the profile, if one is named. The profile `docs` of the machine `pc` is named `pc=docs`.
+    pub machine: Option<&'a str>,
     /// Its bytes, without the heading of the section.
     pub bytes: &'a [u8],
 }
@@ -33,7 +37,7 @@ pub struct Part<'a> {
 /// Why a file can't be a section of a bundle.
 #[derive(Clone, Copy, Debug, PartialEq, Eq)]
 pub enum PartFault {
-    /// The profile's name has an LF or a CR.
+    /// The profile's name, or that of its machine, has an LF or a CR.
     BadName,
     /// The line of this number, from 1 on, begins with `%`, so it would begin another section.
     HasHeading(usize),
@@ -51,13 +55,50 @@ pub(crate) fn heading_word(kind: Kind) -> &'static [u8]
     }
 }
 
-/// The name in the heading of a section: only that of a profile has one.
-pub(crate) fn heading_name<'a>(part: &Part<'a>) -> &'a [u8]
-    ensures { result.now ≡ files.heading_name part.now.kind part.now.file.now }
+/// Adds the name in the heading of a section: only that of a profile has one. (The `=` behind a machine's name is this project's
+/// choice.)
+pub(crate) fn push_heading_name(text: &mut Vec<u8>, part: &Part<'_>) -> Result<(), AllocError>
+    ensures { OnOk result (text.new.items ≡ text.old.items ++ files.part_name part.now) }
 {
     match part.kind {
-        Kind::Profile => profile_name(part.file),
-        _ => b"",
+        Kind::Profile => {
+            push_machine(text, part.machine)?;
+            text.extend_from_slice(profile_name(part.file))
+        }
+        _ => Ok(()),
+    }
+}
+
+/// Adds the name of a machine and `=`, if there is one.
+fn push_machine(text: &mut Vec<u8>, machine: Option<&str>) -> Result<(), AllocError>
+    ensures { OnOk result (text.new.items ≡ text.old.items
+        ++ files.machine_mark (option_map (λ m. m.now) machine.entry)) }
+{
+    if let Some(machine) = machine {
+        text.extend_from_slice(machine.as_bytes())?;
+        text.push(b'=')?;
+    }
+    Ok(())
+}
+
+/// Returns whether the name in the heading of a section has an LF or a CR.
+fn has_broken_name(part: &Part<'_>) -> bool
+    ensures { result ≡ files.has_break (files.part_name part.now) }
+{
+    match part.kind {
+        Kind::Profile => has_broken_machine(part.machine) || has_break(profile_name(part.file)),
+        _ => false,
+    }
+}
+
+/// Returns whether there is a machine, and its name has an LF or a CR.
+fn has_broken_machine(machine: Option<&str>) -> bool
+    ensures { result ≡ files.has_break
+        (files.machine_mark (option_map (λ m. m.now) machine.entry)) }
+{
+    match machine {
+        Some(machine) => has_break(machine.as_bytes()),
+        None => false,
     }
 }
 
@@ -65,7 +106,7 @@ pub(crate) fn heading_name<'a>(part: &Part<'a>) -> &'a [u8]
 pub fn part_fault(part: &Part<'_>) -> Option<PartFault>
     ensures { result ≡ files.part_fault part.now }
 {
-    if has_break(heading_name(part)) {
+    if has_broken_name(part) {
         return Some(PartFault::BadName);
     }
     match heading_line(part.bytes) {

@@ -6,6 +6,7 @@ use Rattle.std.proofs.lemmas.List.Elements.{All-head, All-tail, All-weaker}
 use denote.Ref.{Bor}
 use Rattle.hub_include.specs.Files.{Known}
 use Rattle.hub_folder.specs.Folders.{have_file, have_root, is_profile, is_rootless, leaves_out, left_out_by, rootless_of, say_something}
+use Rattle.hub_folder.specs.Machines.{source_of}
 use Rattle.hub_folder.specs.Noted.{Noted, AreNoted, IsNoted, joined, nothing}
 use Rattle.hub_folder.specs.Reading.{Lists, Reads}
 use Rattle.hub_folder.specs.Told.{AreTold, IsTold, file_told, is_profile_told, is_rootless_told, leaves_out_told, left_out_told, left_outs_told, noted_of, path_and_text, paths_left_out, rootless_told}
@@ -85,7 +86,7 @@ joined-assoc a b c =
 
 -- One more operand.
 AreNoted-more : (reads : Reads) (lists : Lists) (os : List (List ℕ)) (o : List ℕ) (n own : Noted)
-    → AreNoted reads lists os n → IsNoted reads lists o own → AreNoted reads lists (os ++ o ∷ []) (joined n own)
+    → AreNoted reads lists os n → IsNoted reads lists (source_of o) own → AreNoted reads lists (os ++ o ∷ []) (joined n own)
 AreNoted-more reads lists [] o n own none is = (own, nothing, ap (λ m. joined m own) none ∙ sym (joined-nothing own), is, refl)
 AreNoted-more reads lists (p ∷ os) o n own are is =
     (are.0, joined are.1 own, ap (λ m. joined m own) are.2 ∙ joined-assoc are.0 are.1 own, are.3, AreNoted-more reads lists os o are.1 own are.4 is)
@@ -104,7 +105,7 @@ joined-noted files own all paths others every e f =
 pub noted-more : (reads : Reads) (lists : Lists) (operands : List (Bor (List ℕ))) (i : ℕ) (d : Bor (List ℕ)) (files own all : List FolderProfile)
     (paths others every : List (String Global)) → i < length operands → all ≡ files ++ own → every ≡ paths ++ others
     → AreNoted reads lists (map (λ o. o.now) (take i operands)) (noted_of files paths)
-    → IsNoted reads lists (get_or operands i d).now (noted_of own others)
+    → IsNoted reads lists (source_of (get_or operands i d).now) (noted_of own others)
     → AreNoted reads lists (map (λ o. o.now) (take (i + 1) operands)) (noted_of all every)
 noted-more reads lists operands i d files own all paths others every lt e f are is =
     subst (AreNoted reads lists (map (λ o. o.now) (take (i + 1) operands))) (sym (joined-noted files own all paths others every e f))

@@ -1,7 +1,9 @@
 pub mod Folders
+pub mod Machines
 pub mod Noted
 pub mod Operands
 pub mod Reading
 pub mod Taken
 pub mod Told
 pub mod Wanted
+pub mod examples

@@ -1,6 +1,7 @@
 -- Which files are left out of the profiles that operands name.
 use Rattle.std.specs.Prelude.{◌≡◌, ℕ, true, false, List, [], ◌∷◌, ◌++◌}
 use Rattle.hub_folder.specs.Folders.{AreProfiles, left_out_of, place_of, profile_files, rootless_of}
+use Rattle.hub_folder.specs.Machines.{source_of}
 use Rattle.hub_folder.specs.Operands.{File, IsNamed, is_profile_file}
 use Rattle.hub_folder.specs.Reading.{Lists, Reads}
 
@@ -35,16 +36,15 @@ pub record IsNotedFolder (reads : Reads) (lists : Lists) (folder : List ℕ) (n 
   pub rootless_are : n.rootless
       ≡ rootless_of profiles.known (place_of folder) (profile_files profiles.names)
 
--- What an operand names: the profile of a file, beside which no file is left out, or those of a
--- folder.
-pub record IsNoted (reads : Reads) (lists : Lists) (operand : List ℕ) (n : Noted) : Type 0 where
-  pub by_file : is_profile_file operand ≡ true
-      → IsNamed reads lists operand n.files × (n.left_out ≡ [] ∷ []) × (n.rootless ≡ [])
-  pub by_folder : is_profile_file operand ≡ false → IsNotedFolder reads lists operand n
+-- What is at a path: the profile of a file, beside which no file is left out, or those of a folder.
+pub record IsNoted (reads : Reads) (lists : Lists) (path : List ℕ) (n : Noted) : Type 0 where
+  pub by_file : is_profile_file path ≡ true
+      → IsNamed reads lists path n.files × (n.left_out ≡ [] ∷ []) × (n.rootless ≡ [])
+  pub by_folder : is_profile_file path ≡ false → IsNotedFolder reads lists path n
 
 -- What operands name, in their order.
 abbrev pub AreNoted : Reads → Lists → List (List ℕ) → Noted → Type 0
 AreNoted reads lists [] n = n ≡ nothing
 AreNoted reads lists (o ∷ os) n =
     (own : Noted) × (rest : Noted) × (n ≡ joined own rest)
-    × IsNoted reads lists o own × AreNoted reads lists os rest
+    × IsNoted reads lists (source_of o) own × AreNoted reads lists os rest

@@ -1,5 +1,5 @@
 -- Files and their lines, as code has them.
-use Rattle.std.specs.Prelude.{◌≡◌, ◌&&◌, ◌+◌, ◌<◌, ◌++◌, not, ℕ, Bool, List, Ok, String, filter, length, map, sum_by, bytes_eq, string_bytes}
+use Rattle.std.specs.Prelude.{◌≡◌, ◌&&◌, ◌+◌, ◌<◌, ◌++◌, not, ℕ, Bool, List, Ok, Option, String, filter, length, map, sum_by, bytes_eq, string_bytes}
 use Rattle.std.specs.Global.{Global}
 use Rattle.std.specs.List.{All, list_any}
 use denote.Ref.{Bor}
@@ -8,12 +8,15 @@ use Rattle.hub_include.specs.Files.{Known}
 use Rattle.hub_include.specs.Includes.{Lines, lines_of, of_line}
 use Rattle.hub_folder.specs.Folders.{AreProfiles, have_file, have_root, say_something}
 use Rattle.hub_folder.specs.Noted.{Noted, AreNoted, IsNoted, IsNotedFolder}
-use Rattle.hub_folder.specs.Operands.{AreNamed, IsNamed, bytes_in}
+use Rattle.hub_folder.specs.Machines.{machine_in}
+use Rattle.hub_folder.specs.Operands.{AreNamed, IsNamed, Owned, bytes_in, owned}
 use Rattle.hub_folder.specs.Reading.{Lists, Reads}
 use Rattle.hub_folder.specs.declared.fault.Untaken.{Untaken}
 use Rattle.hub_folder.specs.declared.fault.Untaken.TheVariants as untaken
 use Rattle.hub_folder.specs.declared.folder.FolderProfile.{FolderProfile}
 use Rattle.hub_folder.specs.declared.folder.TakenProfiles.{TakenProfiles}
+use Rattle.hub_folder.specs.declared.operands.NamedProfile.{NamedProfile}
+use Rattle.hub_folder.specs.declared.operands.NamedProfiles.{NamedProfiles}
 use Rattle.hub_folder.specs.declared.shelf.TheConstants.{INCLUDED_BYTES}
 use Rattle.hub_folder.specs.declared.told.Told.{Told}
 
@@ -101,30 +104,42 @@ noted_of ps paths = record {
 abbrev pub profile_bytes : List FolderProfile → ℕ
 profile_bytes ps = bytes_in (map path_and_text ps)
 
+-- A profile of a machine, and the profiles alone.
+abbrev pub owned_of : NamedProfile → Owned
+owned_of p = owned (machine_in p.machine) (path_and_text p.profile)
+
+abbrev pub folder_profiles : List NamedProfile → List FolderProfile
+folder_profiles ps = map (λ p. p.profile) ps
+
+abbrev pub named : Option (Bor (List ℕ)) → FolderProfile → NamedProfile
+named machine profile = record { machine = machine; profile = profile }
+
 -- The texts that are borrowed.
 abbrev pub texts_in : List (Bor (List ℕ)) → List (List ℕ)
 texts_in ts = map (λ t. t.now) ts
 
--- The profiles that are held are those of a folder, of an operand, and of operands.
+-- The profiles that are held are those of a folder, at a path, and of operands.
 abbrev pub HoldProfiles : Reads → Lists → List ℕ → List FolderProfile → Type 0
 HoldProfiles reads lists folder ps = AreProfiles reads lists folder (map path_and_text ps)
 
-abbrev pub HoldOperand : Reads → Lists → List ℕ → List FolderProfile → Type 0
-HoldOperand reads lists operand ps = IsNamed reads lists operand (map path_and_text ps)
+abbrev pub HoldPath : Reads → Lists → List ℕ → List FolderProfile → Type 0
+HoldPath reads lists path ps = IsNamed reads lists path (map path_and_text ps)
 
-abbrev pub HoldNamed : Reads → Lists → List (Bor (List ℕ)) → List FolderProfile → Type 0
+abbrev pub HoldNamed : Reads → Lists → List (Bor (List ℕ)) → List NamedProfile → Type 0
 HoldNamed reads lists operands ps =
-    AreNamed reads lists (texts_in operands) (map path_and_text ps)
+    AreNamed reads lists (texts_in operands) (map owned_of ps)
 
--- What is held is what a folder, an operand, and operands name, with the files that are left out.
+-- What is held is what is in a folder, at a path, and what operands name, with the files that are
+-- left out.
 abbrev pub HoldNotedFolder : Reads → Lists → List ℕ → TakenProfiles → Type 0
 HoldNotedFolder reads lists folder v =
     IsNotedFolder reads lists folder (noted_of v.profiles.items v.rootless.items)
 
-abbrev pub HoldNotedOperand : Reads → Lists → List ℕ → TakenProfiles → Type 0
-HoldNotedOperand reads lists operand v =
-    IsNoted reads lists operand (noted_of v.profiles.items v.rootless.items)
+abbrev pub HoldNotedPath : Reads → Lists → List ℕ → TakenProfiles → Type 0
+HoldNotedPath reads lists path v =
+    IsNoted reads lists path (noted_of v.profiles.items v.rootless.items)
 
-abbrev pub HoldNoted : Reads → Lists → List (Bor (List ℕ)) → TakenProfiles → Type 0
+abbrev pub HoldNoted : Reads → Lists → List (Bor (List ℕ)) → NamedProfiles → Type 0
 HoldNoted reads lists operands v =
-    AreNoted reads lists (texts_in operands) (noted_of v.profiles.items v.rootless.items)
+    AreNoted reads lists (texts_in operands)
+    (noted_of (folder_profiles v.profiles.items) v.rootless.items)

@@ -3,7 +3,7 @@ use Rattle.std.proofs.Common.{◌≡◌, ◌∙◌, ℕ, true, cond, List, [], �
 use Rattle.std.specs.Prelude.{⊤}
 use Rattle.std.specs.Option.{option_map}
 use Rattle.hub_text.specs.laws.List.{some-item}
-use Rattle.hub_hosts.specs.Remotes.{base_for, folder_path, local, local_of, path_below, path_of, path_of_local, remote_of}
+use Rattle.hub_hosts.specs.Remotes.{base_for, folder_path, local, local_of, path_below, path_of, path_of_local, remote_for}
 use Rattle.hub_hosts.specs.Table.{Row, rows_of, slash}
 use Rattle.hub_hosts.specs.Words.{begins_with}
 use Rattle.hub_hosts.specs.declared.remote.Remote.{Remote}
@@ -39,7 +39,7 @@ local_of-absolute rows (Some r) h = at (base_for rows r) (base_for-base rows r h
     at None f = tt
     at (Some base) f = path_below-absolute base r.below f
 
-pub path_of-absolute : (table root path : List ℕ) (rows : List Row) → rows_of table ≡ Ok rows
-    → path_of rows root ≡ Some path → begins_with slash path ≡ true
-path_of-absolute table root path rows e f =
-    subst IfAbsolute f (local_of-absolute rows (remote_of root) (rows_of-paths table rows e))
+pub path_of-absolute : (table root path : List ℕ) (machine : Option (List ℕ)) (rows : List Row) → rows_of table ≡ Ok rows
+    → path_of rows machine root ≡ Some path → begins_with slash path ≡ true
+path_of-absolute table root path machine rows e f =
+    subst IfAbsolute f (local_of-absolute rows (remote_for machine root) (rows_of-paths table rows e))

@@ -1,4 +1,5 @@
 mod Absolute
+mod Machines
 mod NoLf
 mod Numbers
 mod Stays

@@ -7,7 +7,7 @@ use Rattle.hub_text.specs.declared.line.Line.{Line}
 use Rattle.hub_text.specs.Lines.{lines_of, without_last_cr}
 use Rattle.hub_text.specs.laws.List.{some-item}
 use Rattle.hub_hosts.specs.Profiles.{from_arrow, from_root, line_for, line_from, root_in, sets_arrow, sets_root, text_for, value_of, whole_line_for, with_root, with_root_if}
-use Rattle.hub_hosts.specs.Remotes.{base_for, folder_path, local, local_of, path_below, path_of, path_of_local, remote_in, remote_of}
+use Rattle.hub_hosts.specs.Remotes.{base_for, folder_path, local, local_of, is_local, path_below, path_of, path_of_local, remote_for, remote_in, remote_of, remote_on}
 use Rattle.hub_hosts.specs.Table.{Row, blanks, rows_of, slash}
 use Rattle.hub_hosts.specs.Words.{before, begins_with, behind, behind_last_arrow, from_first, skip}
 use Rattle.hub_hosts.specs.declared.remote.Remote.{Remote}
@@ -56,8 +56,17 @@ remote_of-below root h =
     either false true = remote_in-below (drop 9 root) (drop-no_lf 9 root h)
     either false false = tt
 
-path_of-part : (rows : List Row) (root : List ℕ) → HavePaths rows → has_lf root ≡ false → IfPart (path_of rows root)
-path_of-part rows root h k = by (remote_of root) (remote_of-below root k)
+remote_for-below : (machine : Option (List ℕ)) (root : List ℕ) → has_lf root ≡ false → IfBelow (remote_for machine root)
+remote_for-below None root h = remote_of-below root h
+remote_for-below (Some machine) root h = either (is_local root)
+  where
+    either : (b : Bool) → IfBelow (cond b (Some (remote_on machine root)) (remote_of root))
+    either true = skip_end-no_lf slash (skip slash root) (skip-no_lf slash root h)
+    either false = remote_of-below root h
+
+path_of-part : (rows : List Row) (machine : Option (List ℕ)) (root : List ℕ) → HavePaths rows → has_lf root ≡ false
+    → IfPart (path_of rows machine root)
+path_of-part rows machine root h k = by (remote_for machine root) (remote_for-below machine root k)
   where
     at : (r : Remote (List ℕ)) (o : Option (List ℕ)) → IfBase o → has_lf r.below ≡ false
         → IfPart (option_map path_of_local (option_map (λ base. local base r.below) o))
@@ -91,33 +100,35 @@ from_root-no_lf line h =
     (if-no_lf (sets_arrow line) (from_arrow (value_of line)) None
     (map-no_lf (skip blanks) (behind_last_arrow (value_of line)) (skip-no_lf blanks) (behind_last_arrow-no_lf (value_of line) value)) tt)
 
-line_for-placed : (rows : List Row) (line : List ℕ) → HavePaths rows → has_lf line ≡ false → IsPlaced line (line_for rows line)
-line_for-placed rows line h k = by (from_root line) (from_root-no_lf line k)
+line_for-placed : (rows : List Row) (machine : Option (List ℕ)) (line : List ℕ) → HavePaths rows → has_lf line ≡ false
+    → IsPlaced line (line_for rows machine line)
+line_for-placed rows machine line h k = by (from_root line) (from_root-no_lf line k)
   where
     at : (end : List ℕ) (o : Option (List ℕ)) → has_lf end ≡ false → IfPart o → IsPlaced line (with_root_if line end o)
     at end None f p = (k, λ some. some)
     at end (Some root) f p = with_root-placed line end root k f p
 
-    by : (o : Option (List ℕ)) → IfNoLf o → IsPlaced line (line_from rows line o)
+    by : (o : Option (List ℕ)) → IfNoLf o → IsPlaced line (line_from rows machine line o)
     by None f = (k, λ some. some)
-    by (Some end) f = at end (path_of rows (root_in end)) f (path_of-part rows (root_in end) h (root_in-no_lf end f))
+    by (Some end) f = at end (path_of rows machine (root_in end)) f (path_of-part rows machine (root_in end) h (root_in-no_lf end f))
 
-AreLines-for : (rows : List Row) (ls : List (Line (List ℕ))) → HavePaths rows → AreLines ls → AreLines (map (whole_line_for rows) ls)
-AreLines-for rows [] h a = tt
-AreLines-for rows (l ∷ ls) h a =
-    let placed = line_for-placed rows l.text h a.0 in (
+AreLines-for : (rows : List Row) (machine : Option (List ℕ)) (ls : List (Line (List ℕ))) → HavePaths rows → AreLines ls
+    → AreLines (map (whole_line_for rows machine) ls)
+AreLines-for rows machine [] h a = tt
+AreLines-for rows machine (l ∷ ls) h a =
+    let placed = line_for-placed rows machine l.text h a.0 in (
       placed.0,
-      ⊎_elim (λ e. inl e) (λ last. inr (last.0, ap (map (whole_line_for rows)) last.1, placed.1 last.2)) a.1,
-      AreLines-for rows ls h a.2,
+      ⊎_elim (λ e. inl e) (λ last. inr (last.0, ap (map (whole_line_for rows machine)) last.1, placed.1 last.2)) a.1,
+      AreLines-for rows machine ls h a.2,
     )
 
-pub lines_of-text_for : (table text : List ℕ) (rows : List Row) → rows_of table ≡ Ok rows
-    → lines_of (text_for rows text) ≡ map (whole_line_for rows) (lines_of text)
-lines_of-text_for table text rows e =
-    lines_of-text_of_lines (map (whole_line_for rows) (lines_of text))
-    (AreLines-for rows (lines_of text) (rows_of-paths table rows e) (AreLines-lines_of text))
+pub lines_of-text_for : (table text : List ℕ) (machine : Option (List ℕ)) (rows : List Row) → rows_of table ≡ Ok rows
+    → lines_of (text_for rows machine text) ≡ map (whole_line_for rows machine) (lines_of text)
+lines_of-text_for table text machine rows e =
+    lines_of-text_of_lines (map (whole_line_for rows machine) (lines_of text))
+    (AreLines-for rows machine (lines_of text) (rows_of-paths table rows e) (AreLines-lines_of text))
 
-pub length-lines_of-text_for : (table text : List ℕ) (rows : List Row) → rows_of table ≡ Ok rows
-    → length (lines_of (text_for rows text)) ≡ length (lines_of text)
-length-lines_of-text_for table text rows e =
-    ap length (lines_of-text_for table text rows e) ∙ length-map (lines_of text) (whole_line_for rows)
+pub length-lines_of-text_for : (table text : List ℕ) (machine : Option (List ℕ)) (rows : List Row) → rows_of table ≡ Ok rows
+    → length (lines_of (text_for rows machine text)) ≡ length (lines_of text)
+length-lines_of-text_for table text machine rows e =
+    ap length (lines_of-text_for table text machine rows e) ∙ length-map (lines_of text) (whole_line_for rows machine)

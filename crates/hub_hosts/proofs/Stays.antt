@@ -8,7 +8,7 @@ use Rattle.hub_text.specs.declared.line.Line.{Line}
 use Rattle.hub_text.specs.Lines.{lines_of, text_of_lines}
 use Rattle.hub_text.specs.laws.Line.{text_of_lines-lines_of}
 use Rattle.hub_hosts.specs.Profiles.{from_arrow, from_root, is_remote_end, line_for, line_from, names_remote, root_in, sets_arrow, sets_root, text_for, value_of, whole_line_for, with_root_if}
-use Rattle.hub_hosts.specs.Remotes.{base_for, local, local_of, path_for, path_of, path_of_local, remote_of}
+use Rattle.hub_hosts.specs.Remotes.{base_for, local, local_of, path_for, path_of, path_of_local, remote_for}
 use Rattle.hub_hosts.specs.Table.{Row, blanks, has_row, is_for}
 use Rattle.hub_hosts.specs.Words.{host_in, skip}
 use Rattle.hub_hosts.specs.declared.remote.Remote.{Remote}
@@ -20,10 +20,10 @@ find-none test (x ∷ xs) h =
     let parts = or_parts (test x) (list_any test xs) h in
     rw parts.0 (find-none test xs parts.1)
 
-pub other_name : (rows : List Row) (line : List ℕ) → sets_root line ≡ false → sets_arrow line ≡ false
-    → line_for rows line ≡ line
-other_name rows line h k =
-    ap (line_from rows line)
+pub other_name : (rows : List Row) (machine : Option (List ℕ)) (line : List ℕ) → sets_root line ≡ false → sets_arrow line ≡ false
+    → line_for rows machine line ≡ line
+other_name rows machine line h k =
+    ap (line_from rows machine line)
     (ap (λ b. cond b (Some (skip blanks (value_of line))) (cond (sets_arrow line) (from_arrow (value_of line)) None)) h
     ∙ ap (λ b. cond b (from_arrow (value_of line)) None) k)
 
@@ -31,35 +31,35 @@ no-row : (rows : List Row) (name : List ℕ) (in_home : Bool) → has_row rows n
     → path_for rows name in_home ≡ None
 no-row rows name in_home h = ap (option_map (λ row. row.path)) (find-none (is_for name in_home) rows h)
 
-pub unknown_host : (rows : List Row) (line end : List ℕ) (r : Remote (List ℕ))
-    → from_root line ≡ Some end → remote_of (root_in end) ≡ Some r
+pub unknown_host : (rows : List Row) (machine : Option (List ℕ)) (line end : List ℕ) (r : Remote (List ℕ))
+    → from_root line ≡ Some end → remote_for machine (root_in end) ≡ Some r
     → has_row rows r.name r.is_in_home ≡ false
-    → has_row rows (host_in r.name) r.is_in_home ≡ false → line_for rows line ≡ line
-unknown_host rows line end r e f h k =
+    → has_row rows (host_in r.name) r.is_in_home ≡ false → line_for rows machine line ≡ line
+unknown_host rows machine line end r e f h k =
     let none : base_for rows r ≡ None =
     (λ i. option_or (no-row rows r.name r.is_in_home h i) (no-row rows (host_in r.name) r.is_in_home k i)) in
-    let stays : path_of rows (root_in end) ≡ None =
+    let stays : path_of rows machine (root_in end) ≡ None =
     ap (λ o. option_map path_of_local (local_of rows o)) f
     ∙ ap (λ o. option_map path_of_local (option_map (λ base. local base r.below) o)) none in
-    ap (line_from rows line) e ∙ ap (with_root_if line end) stays
+    ap (line_from rows machine line) e ∙ ap (with_root_if line end) stays
 
-no-remote : (rows : List Row) (line : List ℕ) (o : Option (List ℕ)) → is_remote_end o ≡ false
-    → line_from rows line o ≡ line
-no-remote rows line None h = refl
-no-remote rows line (Some end) h =
-    ap (λ r. with_root_if line end (option_map path_of_local (local_of rows r))) (none (remote_of (root_in end)) h)
+no-remote : (rows : List Row) (machine : Option (List ℕ)) (line : List ℕ) (o : Option (List ℕ)) → is_remote_end machine o ≡ false
+    → line_from rows machine line o ≡ line
+no-remote rows machine line None h = refl
+no-remote rows machine line (Some end) h =
+    ap (λ r. with_root_if line end (option_map path_of_local (local_of rows r))) (none (remote_for machine (root_in end)) h)
   where
     none : (r : Option (Remote (List ℕ))) → is_some r ≡ false → r ≡ None
     none None g = refl
     none (Some s) g = cc
 
-lines-stay : (rows : List Row) (ls : List (Line (List ℕ))) → list_any (λ l. names_remote l.text) ls ≡ false
-    → map (whole_line_for rows) ls ≡ ls
-lines-stay rows [] h = refl
-lines-stay rows (l ∷ ls) h =
-    let parts = or_parts (names_remote l.text) (list_any (λ m. names_remote m.text) ls) h in
-    λ i. record { text = no-remote rows l.text (from_root l.text) parts.0 i; is_ended = l.is_ended } ∷ lines-stay rows ls parts.1 i
+lines-stay : (rows : List Row) (machine : Option (List ℕ)) (ls : List (Line (List ℕ)))
+    → list_any (λ l. names_remote machine l.text) ls ≡ false → map (whole_line_for rows machine) ls ≡ ls
+lines-stay rows machine [] h = refl
+lines-stay rows machine (l ∷ ls) h =
+    let parts = or_parts (names_remote machine l.text) (list_any (λ m. names_remote machine m.text) ls) h in
+    λ i. record { text = no-remote rows machine l.text (from_root l.text) parts.0 i; is_ended = l.is_ended } ∷ lines-stay rows machine ls parts.1 i
 
-pub no_remote_roots : (rows : List Row) (text : List ℕ) → list_any (λ l. names_remote l.text) (lines_of text) ≡ false
-    → text_for rows text ≡ text
-no_remote_roots rows text h = ap text_of_lines (lines-stay rows (lines_of text) h) ∙ text_of_lines-lines_of text
+pub no_remote_roots : (rows : List Row) (machine : Option (List ℕ)) (text : List ℕ)
+    → list_any (λ l. names_remote machine l.text) (lines_of text) ≡ false → text_for rows machine text ≡ text
+no_remote_roots rows machine text h = ap text_of_lines (lines-stay rows machine (lines_of text) h) ∙ text_of_lines-lines_of text

@@ -1,10 +1,11 @@
--- The text of a profile, with paths in place of roots on other machines.
+-- The text of a profile, with paths in place of roots on other machines. It may be the profile of
+-- another machine itself: then its roots here are on that one.
 use Rattle.std.specs.Prelude.{ℕ, ◌&&◌, Bool, false, is_some, List, [], ◌∷◌, ◌++◌, drop, length, map, Option, Some, None, codes, if◌then◌else◌}
 use Rattle.std.specs.List.{list_any}
 use Rattle.hub_text.specs.declared.line.Line.{Line}
 use Rattle.hub_text.specs.Lines.{lines_of, text_of_lines, without_last_cr}
 use Rattle.std.specs.Option.{option_map}
-use Rattle.hub_hosts.specs.Remotes.{path_of, remote_of}
+use Rattle.hub_hosts.specs.Remotes.{path_of, remote_for}
 use Rattle.hub_hosts.specs.Table.{Row, blanks}
 use Rattle.hub_hosts.specs.Words.{before, begins_with, behind, behind_last_arrow, from_first, skip, skip_end}
 
@@ -57,13 +58,13 @@ abbrev pub own_root : List ℕ → Option (List ℕ)
 own_root line =
     if sets line (codes "root") then Some (root_in (skip blanks (value_of line))) else None
 
--- A line names a root on another machine.
-abbrev pub is_remote_end : Option (List ℕ) → Bool
-is_remote_end None = false
-is_remote_end (Some end) = is_some (remote_of (root_in end))
+-- A line of a profile of this machine names a root on another machine.
+abbrev pub is_remote_end : Option (List ℕ) → Option (List ℕ) → Bool
+is_remote_end machine None = false
+is_remote_end machine (Some end) = is_some (remote_for machine (root_in end))
 
-abbrev pub names_remote : List ℕ → Bool
-names_remote line = is_remote_end (from_root line)
+abbrev pub names_remote : Option (List ℕ) → List ℕ → Bool
+names_remote machine line = is_remote_end machine (from_root line)
 
 -- A line with another root, in the place of that at the end of the line.
 abbrev pub with_root : List ℕ → List ℕ → List ℕ → List ℕ
@@ -74,16 +75,18 @@ with_root_if line end None = line
 with_root_if line end (Some root) = with_root line end root
 
 -- A line with the path that stands for its root, if it has a root whose host the table has.
-abbrev pub line_from : List Row → List ℕ → Option (List ℕ) → List ℕ
-line_from rows line None = line
-line_from rows line (Some end) = with_root_if line end (path_of rows (root_in end))
+abbrev pub line_from : List Row → Option (List ℕ) → List ℕ → Option (List ℕ) → List ℕ
+line_from rows machine line None = line
+line_from rows machine line (Some end) =
+    with_root_if line end (path_of rows machine (root_in end))
 
-abbrev pub line_for : List Row → List ℕ → List ℕ
-line_for rows line = line_from rows line (from_root line)
+abbrev pub line_for : List Row → Option (List ℕ) → List ℕ → List ℕ
+line_for rows machine line = line_from rows machine line (from_root line)
 
-abbrev pub whole_line_for : List Row → Line (List ℕ) → Line (List ℕ)
-whole_line_for rows l = record { text = line_for rows l.text; is_ended = l.is_ended }
+abbrev pub whole_line_for : List Row → Option (List ℕ) → Line (List ℕ) → Line (List ℕ)
+whole_line_for rows machine l =
+    record { text = line_for rows machine l.text; is_ended = l.is_ended }
 
--- The text, line by line.
-abbrev pub text_for : List Row → List ℕ → List ℕ
-text_for rows text = text_of_lines (map (whole_line_for rows) (lines_of text))
+-- The text of a profile of this machine, or of none that is named, line by line.
+abbrev pub text_for : List Row → Option (List ℕ) → List ℕ → List ℕ
+text_for rows machine text = text_of_lines (map (whole_line_for rows machine) (lines_of text))

@@ -1,5 +1,5 @@
 -- Roots on other machines, and the paths that stand for them.
-use Rattle.std.specs.Prelude.{◌≡◌, false, ℕ, ◌==◌, ◌-◌, Bool, not, ◌&&◌, nat_eq, List, ◌++◌, length, take, drop, Option, Some, None, codes, if◌then◌else◌}
+use Rattle.std.specs.Prelude.{◌≡◌, false, ℕ, ◌==◌, ◌-◌, Bool, not, ◌&&◌, nat_eq, List, ◌++◌, length, take, drop, Option, Some, None, is_some, codes, if◌then◌else◌}
 use Rattle.std.specs.List.{ends_with, find, list_any}
 use Rattle.std.specs.Option.{option_map, option_or}
 use denote.Ref.{Bor}
@@ -36,6 +36,26 @@ remote_of root =
     if begins_with (codes "ssh://") root then Some (remote_in (drop 6 root))
     else (if begins_with (codes "socket://") root then Some (remote_in (drop 9 root)) else None)
 
+-- A root here is a path that begins with one slash.
+abbrev pub is_local : List ℕ → Bool
+is_local root = begins_with slash root && not (begins_with (codes "//") root)
+
+-- The root that this one of a profile of the machine is: what `ssh://`, the machine's name, a slash
+-- and it say together.
+abbrev pub remote_on : List ℕ → List ℕ → Remote (List ℕ)
+remote_on machine root = record {
+  name = without_port machine;
+  is_in_home = false;
+  below = skip_end slash (skip slash root);
+}
+
+-- The root on another machine that the root of a profile is. The roots here of a profile of another
+-- machine are on that one.
+abbrev pub remote_for : Option (List ℕ) → List ℕ → Option (Remote (List ℕ))
+remote_for None root = remote_of root
+remote_for (Some machine) root =
+    if is_local root then Some (remote_on machine root) else remote_of root
+
 -- The path of the row for this name,
 abbrev pub path_for : List Row → List ℕ → Bool → Option (List ℕ)
 path_for rows name in_home = option_map (λ row. row.path) (find (is_for name in_home) rows)
@@ -56,9 +76,14 @@ abbrev pub folds_remote : List Row → Option (Remote (List ℕ)) → Bool
 folds_remote rows None = false
 folds_remote rows (Some r) = folds_at rows (host_in r.name)
 
--- A root is on a host that a row of the table marks as one that folds names.
-abbrev pub folds_names : List Row → List ℕ → Bool
-folds_names rows root = folds_remote rows (remote_of root)
+-- A root of a profile of this machine is on a host that a row of the table marks as one that folds
+-- names.
+abbrev pub folds_names : List Row → Option (List ℕ) → List ℕ → Bool
+folds_names rows machine root = folds_remote rows (remote_for machine root)
+
+-- The table has a row for the roots here of profiles of this machine.
+abbrev pub has_machine : List Row → List ℕ → Bool
+has_machine rows machine = is_some (base_for rows (remote_on machine slash))
 
 -- The path of a name below a folder. The folder's path has no slash at its end, so that of `/` is
 -- empty.
@@ -75,14 +100,17 @@ abbrev pub local_of : List Row → Option (Remote (List ℕ)) → Option (Local 
 local_of rows None = None
 local_of rows (Some r) = option_map (λ base. local base r.below) (base_for rows r)
 
--- The path that stands for a root, if the table has its host.
+-- The path that stands for a root of a profile of this machine, if the table has the root's host.
 abbrev pub path_of_local : Local (List ℕ) → List ℕ
 path_of_local l = path_below l.base l.below
 
-abbrev pub path_of : List Row → List ℕ → Option (List ℕ)
-path_of rows root = option_map path_of_local (local_of rows (remote_of root))
+abbrev pub path_of : List Row → Option (List ℕ) → List ℕ → Option (List ℕ)
+path_of rows machine root = option_map path_of_local (local_of rows (remote_for machine root))
 
 -- Borrowed values.
+abbrev pub machine_in : Option (Bor (List ℕ)) → Option (List ℕ)
+machine_in machine = option_map (λ name. name.now) machine
+
 abbrev pub of_remote : Remote (Bor (List ℕ)) → Remote (List ℕ)
 of_remote r = record { name = r.name.now; is_in_home = r.is_in_home; below = r.below.now }
 

@@ -1,7 +1,9 @@
 //! Paths in place of the roots on other machines that Unison profiles name.
 //!
 //! - [`Hosts::read`]: a table of hosts, each with the path that stands for it, or the first [`HostsFault`].
-//! - [`Hosts::text_for`]: the text of a profile or of rules with a path in place of each root of a host that the table has.
+//! - [`Hosts::text_for`]: the text of a profile or of rules with a path in place of each root of a host that the table has. It may be
+//!   the profile of another machine: then its roots that begin with one slash are there.
+//! - [`Hosts::has_machine`]: whether the table has a row for these.
 //! - [`root_of`]: the value of a line `root`. [`Hosts::path_of`] is the path that stands for it, and [`Hosts::folds_names`] says whether
 //!   its host takes names that differ in case alone for one name.
 //!
@@ -24,7 +26,8 @@
 //!
 //! `read` returns exactly the rows that `specs/Table` gives, or exactly that fault. `text_for` returns exactly the text of
 //! `specs/Profiles`. A text that names no root on another machine stays, as does a line of another name and one whose host the
-//! table lacks; the lines keep their numbers; what stands in place of a root is an absolute path ([`laws`]).
+//! table lacks; the lines keep their numbers; what stands in place of a root is an absolute path. A root here of a profile of a machine
+//! is the one that `ssh://`, the machine, a slash and it say, and none stays if the table has the machine ([`laws`]).
 //!
 //! # What is not
 //!

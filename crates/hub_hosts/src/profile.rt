@@ -4,7 +4,7 @@ ghost use Rattle.std.specs.Option.{option_map};
 ghost use Rattle.hub_text.specs.Lines.{line_text};
 ghost use Rattle.hub_hosts.specs.Profiles as profiles;
 ghost use Rattle.std.specs.List.{list_any};
-ghost use Rattle.hub_hosts.specs.Remotes.{of_local, path_of_local};
+ghost use Rattle.hub_hosts.specs.Remotes.{machine_in, of_local, path_of_local};
 
 use crate::host::Hosts;
 use crate::remote::Local;
@@ -42,14 +42,23 @@ impl Hosts {
     /// The row for `USER@HOST` comes first, then the one for `HOST`. The path is that of the row, `/` and PATH. The port and slashes
     /// around PATH go. (This is this project's choice.)
     ///
+    /// If it is the profile of a machine, a root that begins with one slash is there, as `ssh://MACHINE/` and it are. A root that begins
+    /// with two slashes, and one that isn't absolute, stay. (This is this project's choice.)
+    ///
     /// It takes time in proportion to the bytes, and for each root to the rows. Out of memory is the only error.
-    pub fn text_for(&self, alloc: Global, text: &[u8]) -> Result<Vec<u8>, AllocError>
-        ensures { IfOk result (λ v. v.items ≡ profiles.text_for self.now text.now) }
+    pub fn text_for(
+        &self,
+        alloc: Global,
+        machine: Option<&str>,
+        text: &[u8],
+    ) -> Result<Vec<u8>, AllocError>
+        ensures { IfOk result (λ v. v.items
+            ≡ profiles.text_for self.now (machine_in machine.entry) text.now) }
     {
         let mut changed = Vec::new(alloc);
         let mut lines = Lines::new(text);
         while let Some(line) = lines.next() {
-            self.push_line(&mut changed, line.text)?;
+            self.push_line(&mut changed, machine, line.text)?;
             if line.is_ended {
                 changed.push(b'\n')?;
             }
@@ -57,15 +66,20 @@ impl Hosts {
         Ok(changed)
     }
 
-    /// Adds a line.
-    fn push_line(&self, text: &mut Vec<u8>, line: &[u8]) -> Result<(), AllocError>
-        ensures { OnOk result
-            (text.new.items ≡ text.old.items ++ profiles.line_for self.now line.now) }
+    /// Adds a line of a profile of this machine.
+    fn push_line(
+        &self,
+        text: &mut Vec<u8>,
+        machine: Option<&str>,
+        line: &[u8],
+    ) -> Result<(), AllocError>
+        ensures { OnOk result (text.new.items ≡ text.old.items
+            ++ profiles.line_for self.now (machine_in machine.entry) line.now) }
     {
         let Some(end) = from_root(line) else {
             return text.extend_from_slice(line);
         };
-        match self.local_of(root_in(end)) {
+        match self.local_of(machine, root_in(end)) {
             Some(path) => push_with(text, line, end, path),
             None => text.extend_from_slice(line),
         }

@@ -4,7 +4,7 @@ ghost use Rattle.std.specs.Option.{option_map};
 ghost use Rattle.std.specs.List.{find};
 ghost use Rattle.hub_hosts.specs.Remotes as remotes;
 ghost use Rattle.hub_hosts.specs.Table.{is_for};
-ghost use Rattle.hub_hosts.specs.Remotes.{of_local, of_remote};
+ghost use Rattle.hub_hosts.specs.Remotes.{machine_in, of_local, of_remote};
 
 use crate::host::{Host, Hosts, is_for, is_same_name};
 use crate::words::{before, from_first, host_in, skip, skip_end};
@@ -72,13 +72,51 @@ fn without_port(name: &[u8]) -> &[u8]
         .unwrap_or(name)
 }
 
+/// Returns whether a root is one here: a path that begins with one slash.
+fn is_local(root: &[u8]) -> bool
+    ensures { result ≡ remotes.is_local root.now }
+{
+    root.starts_with(b"/") && !root.starts_with(b"//")
+}
+
+/// The root that this one of a profile of the machine is.
+fn remote_on<'a>(machine: &'a [u8], root: &'a [u8]) -> Remote<&'a [u8]>
+    ensures { of_remote result ≡ remotes.remote_on machine.now root.now }
+{
+    Remote {
+        name: without_port(machine),
+        is_in_home: false,
+        below: skip_end(b"/", skip(b"/", root)),
+    }
+}
+
+/// The root on another machine that the root of a profile of this machine is.
+fn remote_for<'a>(machine: Option<&'a str>, root: &'a [u8]) -> Option<Remote<&'a [u8]>>
+    ensures { option_map of_remote result ≡ remotes.remote_for (machine_in machine.entry) root.now }
+{
+    match machine {
+        Some(machine) => {
+            if is_local(root) {
+                Some(remote_on(machine.as_bytes(), root))
+            } else {
+                remote_of(root)
+            }
+        }
+        None => remote_of(root),
+    }
+}
+
 impl Hosts {
-    /// The path of a root, if it is one on another machine and the table has its host.
-    pub(crate) fn local_of<'a>(&'a self, root: &'a [u8]) -> Option<Local<&'a [u8]>>
+    /// The path of a root of a profile of this machine, if it is one on another machine and the table has its host.
+    pub(crate) fn local_of<'a>(
+        &'a self,
+        machine: Option<&'a str>,
+        root: &'a [u8],
+    ) -> Option<Local<&'a [u8]>>
         ensures { option_map of_local result
-            ≡ remotes.local_of self.now (remotes.remote_of root.now) }
+            ≡ remotes.local_of self.now (remotes.remote_for (machine_in machine.entry) root.now) }
     {
-        let remote = remote_of(root)?;
+        let remote = remote_for(machine, root)?;
         let base = base_for(self.rows(), remote)?;
         Some(Local {
             base,
@@ -88,11 +126,18 @@ impl Hosts {
 }
 
 impl Hosts {
-    /// The path that stands for a root, if it is one on another machine and the table has its host.
-    pub fn path_of(&self, alloc: Global, root: &[u8]) -> Result<Option<Vec<u8>>, AllocError>
-        ensures { IfOk result (λ p. option_map (λ v. v.items) p ≡ remotes.path_of self.now root.now) }
+    /// The path that stands for a root of a profile, if it is one on another machine and the table has its host. The roots here of a
+    /// profile of another machine are on that one.
+    pub fn path_of(
+        &self,
+        alloc: Global,
+        machine: Option<&str>,
+        root: &[u8],
+    ) -> Result<Option<Vec<u8>>, AllocError>
+        ensures { IfOk result (λ p. option_map (λ v. v.items) p
+            ≡ remotes.path_of self.now (machine_in machine.entry) root.now) }
     {
-        let Some(local) = self.local_of(root) else {
+        let Some(local) = self.local_of(machine, root) else {
             return Ok(None);
         };
         let mut path = Vec::new(alloc);
@@ -100,12 +145,20 @@ impl Hosts {
         Ok(Some(path))
     }
 
-    /// Returns whether a root is on a machine that takes names that differ in case alone for one name: a row marks its host, be it for
-    /// another user, or for roots in a home.
-    pub fn folds_names(&self, root: &[u8]) -> bool
-        ensures { result ≡ remotes.folds_names self.now root.now }
+    /// Returns whether the table has a row for the roots here of profiles of this machine: one for its name with the user or for its
+    /// host, and not one for a home. (This is this project's choice.)
+    pub fn has_machine(&self, machine: &str) -> bool
+        ensures { result ≡ remotes.has_machine self.now machine.now }
     {
-        match remote_of(root) {
+        base_for(self.rows(), remote_on(machine.as_bytes(), b"/")).is_some()
+    }
+
+    /// Returns whether a root of a profile of this machine is on a machine that takes names that differ in case alone for one name: a
+    /// row marks its host, be it for another user, or for roots in a home.
+    pub fn folds_names(&self, machine: Option<&str>, root: &[u8]) -> bool
+        ensures { result ≡ remotes.folds_names self.now (machine_in machine.entry) root.now }
+    {
+        match remote_for(machine, root) {
             Some(remote) => folds_at(self.rows(), host_in(remote.name)),
             None => false,
         }

@@ -1,19 +1,20 @@
 -- What is known of the files that were read.
-use Rattle.std.proofs.Common.{◌≡◌, ◌∙◌, ◌<◌, ◌++◌, ℕ, List, [], ◌∷◌, Option, get_or, length, map, Result, Ok, Err, IfErr, IsErrAnd, ap, refl, subst, sym}
-use Rattle.std.proofs.lemmas.List.{get_or-map, length-map}
+use Rattle.std.proofs.Common.{◌≡◌, ◌∙◌, ◌<◌, ◌++◌, ℕ, List, [], ◌∷◌, Option, Some, None, get_or, length, map, Result, Ok, Err, IfErr, IsErrAnd, ap, refl, subst, sym}
+use Rattle.std.proofs.lemmas.List.{get_or-map, length-map, map-append}
 use Rattle.std.proofs.lemmas.List.Elements.{All-cons, All-head, All-nil, All-tail, Contains-append_right, Contains-get_or}
 use Rattle.std.specs.List.{All, Contains}
 use Rattle.hub_cli.specs.Words.{Names}
 use Rattle.hub_folder.specs.Reading.{Reads}
 use Rattle.hub_bundle.specs.declared.part.Kind.{Kind}
-use Rattle.hub_bundle.specs.declared.part.Kind.TheVariants.{Profile}
-use Rattle.hub_folder.specs.Operands.{AreNamed, File}
-use Rattle.hub_folder.specs.Told.{path_and_text}
-use Rattle.hub_folder.specs.declared.folder.FolderProfile.{FolderProfile}
+use Rattle.hub_bundle.specs.declared.part.Kind.TheVariants.{Certificates, Profile, Rules, State}
+use Rattle.hub_folder.specs.Machines.{second_machine}
+use Rattle.hub_folder.specs.Operands.{AreNamed, File, Owned}
+use Rattle.hub_folder.specs.Told.{owned_of}
+use Rattle.hub_folder.specs.declared.operands.NamedProfile.{NamedProfile}
 use Rattle.hub_hosts.specs.Table.{Row}
 use Rattle.hub_hosts.specs.declared.fault.HostsFault.{HostsFault}
 use denote.Ref.{Bor}
-use Rattle.hubsync.specs.Bundled.{AreSections, AreTaken, Disk, HasContents, IsTable, Label, Sources, for_hosts, for_section, labels, option_labels}
+use Rattle.hubsync.specs.Bundled.{AreSections, AreTaken, Disk, HasContents, IsTable, Label, Sources, for_hosts, for_section, label_alone, label_if, labels, option_labels, profile_label, unknown_host}
 use Rattle.hubsync.specs.Named.{HaveLabels, HaveTexts, IsUnreadFile, IsUnreadOf, IsUnserved, bytes_held, label_held}
 use Rattle.hubsync.specs.declared.files.Held.{Held}
 use Rattle.hubsync.specs.declared.files.Unserved.{Unserved}
@@ -25,6 +26,8 @@ unread-of reads ls label (unserved_as.File file fault) named is = (label, named,
 unread-of reads ls label (unserved_as.Untaken e) named is = absurd is
 unread-of reads ls label (unserved_as.Hosts file fault) named is = absurd is
 unread-of reads ls label (unserved_as.BadHosts file fault) named is = absurd is
+unread-of reads ls label (unserved_as.SecondMachine operand) named is = absurd is
+unread-of reads ls label (unserved_as.UnknownHost operand) named is = absurd is
 unread-of reads ls label unserved_as.OutOfMemory named is = tt
 
 -- it is among those that are named
@@ -34,7 +37,18 @@ unserved disk names ls (unserved_as.File file fault) within is = (is.0, within i
 unserved disk names ls (unserved_as.Untaken e) within is = absurd is
 unserved disk names ls (unserved_as.Hosts file fault) within is = absurd is
 unserved disk names ls (unserved_as.BadHosts file fault) within is = absurd is
+unserved disk names ls (unserved_as.SecondMachine operand) within is = absurd is
+unserved disk names ls (unserved_as.UnknownHost operand) within is = absurd is
 unserved disk names ls unserved_as.OutOfMemory within is = tt
+
+-- an operand whose machine is named twice, or unknown
+pub of-second-machine : (disk : Disk) (names : Names) (u : Unserved) (operand : Bor (List ℕ)) → u ≡ unserved_as.SecondMachine operand
+    → IsUnserved disk names u → second_machine names.profiles ≡ Some operand.now
+of-second-machine disk names u operand e is = subst (IsUnserved disk names) e is
+
+pub of-unknown-host : (disk : Disk) (names : Names) (u : Unserved) (operand : Bor (List ℕ)) → u ≡ unserved_as.UnknownHost operand
+    → IsUnserved disk names u → IsUnserved disk names (unserved_as.UnknownHost operand)
+of-unknown-host disk names u operand e is = subst (IsUnserved disk names) e is
 
 -- what is wrong with a table of hosts
 pub of-bad-hosts : (disk : Disk) (names : Names) (u : Unserved) (file : Bor (List ℕ)) (fault : HostsFault) → u ≡ unserved_as.BadHosts file fault
@@ -49,7 +63,7 @@ pub option-unserved : (disk : Disk) (names : Names) (ls : List Label) (u : Unser
     → IsUnserved disk names u
 option-unserved disk names ls u e is =
     unserved disk names ls u
-    (λ l c. Contains-append_right (map (λ file. (Profile, file)) names.profiles) (option_labels names) l (subst (λ all. Contains all l) e c))
+    (λ l c. Contains-append_right (map (label_alone Profile) names.profiles) (option_labels names) l (subst (λ all. Contains all l) e c))
     is
 
 -- The sections are those of other lists that are the same.
@@ -82,21 +96,46 @@ have-bytes reads (h ∷ hs) all =
     (All-head (HasContents reads) (bytes_held h) (map bytes_held hs) all)
     (have-bytes reads hs (All-tail (HasContents reads) (bytes_held h) (map bytes_held hs) all))
 
+-- The labels of options have no machine.
+abbrev alone : Label → Label
+alone label = label_alone label.0 label.1
+
+alone-if : (kind : Kind) (file : Option (List ℕ)) → map alone (label_if kind file) ≡ label_if kind file
+alone-if kind None = refl
+alone-if kind (Some file) = refl
+
+alone-options : (names : Names) → map alone (option_labels names) ≡ option_labels names
+alone-options names =
+    let rest = label_if State names.state ++ label_if Certificates names.certificates in
+    map-append alone (label_if Rules names.rules) rest
+    ∙ ((λ i. alone-if Rules names.rules i ++ map alone rest)
+    ∙ ap (λ ls. label_if Rules names.rules ++ ls)
+    (map-append alone (label_if State names.state) (label_if Certificates names.certificates)
+    ∙ (λ i. alone-if State names.state i ++ alone-if Certificates names.certificates i)))
+
+labels-alone : (names : Names) (others : List Held) → map label_held others ≡ option_labels names
+    → map (λ o. label_alone o.0 o.1.0) (map section_held others) ≡ option_labels names
+labels-alone names others labels =
+    map-map (λ (o : Kind × File). label_alone o.0 o.1.0) section_held others
+    ∙ (sym (map-map alone label_held others) ∙ (ap (map alone) labels ∙ alone-options names))
+
 -- What is held has the sections of the profiles, and of the others with paths in place of the roots of hosts in rules.
-pub hold_taken : (disk : Disk) (names : Names) (profiles : List FolderProfile) (table : Option (List Row)) (others held : List Held)
-    → AreNamed disk.reads disk.lists names.profiles (map path_and_text profiles) → IsTable disk.reads names.hosts table
-    → map label_held others ≡ option_labels names → All (HasContents disk.reads) (map bytes_held others)
+pub hold_taken : (disk : Disk) (names : Names) (profiles : List NamedProfile) (table : Option (List Row)) (others held : List Held)
+    → AreNamed disk.reads disk.lists names.profiles (map owned_of profiles) → second_machine names.profiles ≡ None
+    → IsTable disk.reads names.hosts table → unknown_host table names.profiles ≡ None → map label_held others ≡ option_labels names → All (HasContents disk.reads) (map bytes_held others)
     → HaveLabels profiles others held → HaveTexts table profiles others held
     → AreTaken disk names (map label_held held) (map bytes_held held)
-hold_taken disk names profiles table others held named is_table labels bytes are_labels are_texts = record {
-  profiles = map path_and_text profiles;
+hold_taken disk names profiles table others held named apart is_table known labels bytes are_labels are_texts = record {
+  profiles = map owned_of profiles;
   named = named;
+  apart = apart;
   table = table;
   is_table = is_table;
+  known = known;
   others = map section_held others;
-  others_are = map-map (λ o. (o.0, o.1.0)) section_held others ∙ labels;
+  others_are = labels-alone names others labels;
   bytes_are = have-bytes disk.reads others bytes;
-  labels_are = are_labels ∙ ap (λ ls. map (λ file. (Profile, file.0)) (map path_and_text profiles) ++ ls) labels;
+  labels_are = are_labels ∙ ap (λ ls. map profile_label (map owned_of profiles) ++ ls) labels;
   files_are = are_texts
-      ∙ ap (λ fs. map (for_hosts table) (map path_and_text profiles) ++ fs) (sym (map-map (λ o. for_section table o.0 o.1) section_held others));
+      ∙ ap (λ fs. map (for_hosts table) (map owned_of profiles) ++ fs) (sym (map-map (λ o. for_section table o.0 o.1) section_held others));
 }

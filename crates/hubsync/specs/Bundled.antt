@@ -1,11 +1,11 @@
 -- What is answered over files.
-use Rattle.std.specs.Prelude.{◌≡◌, ◌⊎◌, ◌++◌, ℕ, Bool, false, true, List, [], ◌∷◌, Option, Some, None, Ok, Err, IfSome, is_some, codes, map, string_bytes}
-use Rattle.std.specs.List.{All, Contains, slice_get}
+use Rattle.std.specs.Prelude.{◌≡◌, ◌⊎◌, ◌++◌, ℕ, Bool, false, not, true, List, [], ◌∷◌, Option, Some, None, Ok, Err, IfSome, is_some, codes, map, string_bytes}
+use Rattle.std.specs.List.{All, Contains, find, slice_get}
 use Rattle.hub_archives.specs.Found.{AreKeptOut, IsHeld}
 use Rattle.hub_archives.specs.declared.found.HeldArchives.{HeldArchives}
 use Rattle.hub_path.specs.Path.{Path}
 use Rattle.hub_cli.specs.Words.{Names, Request}
-use Rattle.hub_bundle.specs.Files.{bundle_of, first_faulty, part_fault}
+use Rattle.hub_bundle.specs.Files.{bundle_of, first_faulty, part_fault, part_machine}
 use Rattle.hub_bundle.specs.declared.part.Kind.{Kind}
 use Rattle.hub_bundle.specs.declared.part.Kind.TheVariants.{Profile, Rules, State, Certificates}
 use Rattle.hub_bundle.specs.declared.part.Part.{Part}
@@ -13,12 +13,14 @@ use Rattle.hub_bundle.specs.declared.part.PartFault.{PartFault}
 use Rattle.hub_bundle.specs.declared.part.PartFault.TheVariants.{BadName, HasHeading}
 use Rattle.hub_serve.specs.Reads.{Reads as InputReads}
 use Rattle.hub_serve.specs.Serves.{AnswersNothing, ServesInFull, WritesText}
-use Rattle.hub_folder.specs.Operands.{AreNamed, File, IsUnnamed}
+use Rattle.hub_folder.specs.Machines.{machine_of, second_machine}
+use Rattle.hub_folder.specs.Operands.{AreNamed, File, IsUnnamed, Owned, owned}
 use Rattle.hub_folder.specs.Reading.{Folders, HasBytes, HasFault, HasFolder, Lists, Reads, fault_word}
 use Rattle.hub_folder.specs.declared.fault.Untaken.{Untaken}
 use Rattle.hub_folder.specs.declared.fault.Untaken.TheVariants as untaken
 use Rattle.hub_folder.specs.declared.reader.ReadFault.{ReadFault}
 use Rattle.hub_hosts.specs.Profiles.{text_for}
+use Rattle.hub_hosts.specs.Remotes.{has_machine}
 use Rattle.hub_hosts.specs.Table.{Row, rows_of}
 use Rattle.hub_hosts.specs.declared.fault.HostsFault.{HostsFault}
 use Rattle.hub_hosts.specs.declared.fault.HostsFault.TheVariants as hosts_fault
@@ -148,16 +150,19 @@ pub record ServesParts (asked : Option Request) (folders : List Path) (parts : L
   pub refused : (n : ℕ) → first_faulty parts ≡ Some n
       → WritesFault (file_at parts n) (reason_at parts n) old new failed status
 
--- The section that a file is for, and its path.
+-- The section that a file is for, its path, and the machine whose profile it is, if one is named.
 abbrev pub Label : Type 0
-Label = Kind × List ℕ
+Label = Kind × List ℕ × Option (List ℕ)
 
 abbrev pub label_of : Part → Label
-label_of p = (p.kind, p.file.now)
+label_of p = (p.kind, p.file.now, part_machine p)
+
+abbrev pub label_alone : Kind → List ℕ → Label
+label_alone kind file = (kind, file, None)
 
 abbrev pub label_if : Kind → Option (List ℕ) → List Label
 label_if kind None = []
-label_if kind (Some file) = (kind, file) ∷ []
+label_if kind (Some file) = label_alone kind file ∷ []
 
 -- The files that the words name, in the order of their sections: the profiles, the rules, the
 -- state, the certificates.
@@ -167,7 +172,7 @@ option_labels names =
     ++ (label_if State names.state ++ label_if Certificates names.certificates)
 
 abbrev pub profile_labels : List (List ℕ) → List Label
-profile_labels files = map (λ file. (Profile, file)) files
+profile_labels files = map (label_alone Profile) files
 
 abbrev pub labels : Names → List Label
 labels names = profile_labels names.profiles ++ option_labels names
@@ -208,33 +213,52 @@ IsTable reads (Some file) table =
     (bytes : List ℕ) × (rows : List Row) × HasBytes reads file bytes
     × (rows_of bytes ≡ Ok rows) × (table ≡ Some rows)
 
--- A profile with paths in place of the roots of these hosts.
-abbrev pub host_text : Option (List Row) → List ℕ → List ℕ
-host_text None text = text
-host_text (Some rows) text = text_for rows text
+-- The machine of an operand that names one has no row in a table of hosts, or there is no table.
+abbrev pub lacks_row : Option (List Row) → Option (List ℕ) → Bool
+lacks_row table None = false
+lacks_row None (Some machine) = true
+lacks_row (Some rows) (Some machine) = not (has_machine rows machine)
 
-abbrev pub for_hosts : Option (List Row) → File → File
-for_hosts table file = (file.0, host_text table file.1)
+-- The first such operand.
+abbrev pub unknown_host : Option (List Row) → List (List ℕ) → Option (List ℕ)
+unknown_host table operands = find (λ o. lacks_row table (machine_of o)) operands
 
--- The same of a section: in a state and in certificates no root is replaced.
+-- The label of a profile that an operand names.
+abbrev pub profile_label : Owned → Label
+profile_label p = (Profile, p.file.0, p.machine)
+
+-- A profile with paths in place of the roots of these hosts. The roots here of a profile of a machine
+-- are on that one.
+abbrev pub host_text : Option (List Row) → Option (List ℕ) → List ℕ → List ℕ
+host_text None machine text = text
+host_text (Some rows) machine text = text_for rows machine text
+
+abbrev pub for_hosts : Option (List Row) → Owned → File
+for_hosts table p = (p.file.0, host_text table p.machine p.file.1)
+
+-- The same of the section of an option: in a state and in certificates no root is replaced.
 abbrev pub for_section : Option (List Row) → Kind → File → File
-for_section table Profile file = for_hosts table file
-for_section table Rules file = for_hosts table file
+for_section table Profile file = for_hosts table (owned None file)
+for_section table Rules file = for_hosts table (owned None file)
 for_section table State file = file
 for_section table Certificates file = file
 
 -- The sections are those of the profiles that the operands name for Unison, with the lines that they
 -- include and with paths in place of the roots of hosts, and of the other files that are named, with
--- their bytes, but for the roots of hosts in rules.
+-- their bytes, but for the roots of hosts in rules. The profiles of a machine have its name before
+-- theirs, and their roots here are on its host. No machine is named twice, and the table has a row for
+-- each.
 pub record AreTaken (disk : Disk) (names : Names) (ls : List Label) (files : List File) : Type 0 where
-  pub profiles : List File
+  pub profiles : List Owned
   pub named : AreNamed disk.reads disk.lists names.profiles profiles
+  pub apart : second_machine names.profiles ≡ None
   pub table : Option (List Row)
   pub is_table : IsTable disk.reads names.hosts table
+  pub known : unknown_host table names.profiles ≡ None
   pub others : List (Kind × File)
-  pub others_are : map (λ o. (o.0, o.1.0)) others ≡ option_labels names
+  pub others_are : map (λ o. label_alone o.0 o.1.0) others ≡ option_labels names
   pub bytes_are : All (λ o. HasContents disk.reads o.1) others
-  pub labels_are : ls ≡ map (λ file. (Profile, file.0)) profiles ++ option_labels names
+  pub labels_are : ls ≡ map profile_label profiles ++ option_labels names
   pub files_are : files
       ≡ map (for_hosts table) profiles ++ map (λ o. for_section table o.0 o.1) others
 
@@ -254,6 +278,17 @@ pub record AreFolders (disk : Disk) (sources : Sources) (ls : List Label) (folde
   pub plain : sources.is_for_unison ≡ false → folders ≡ []
   pub unison : sources.is_for_unison ≡ true → All (HasFolderAmong disk folders) ls
 
+-- An operand was written whose machine another one has, too, or which the table of hosts lacks, or
+-- that memory is out.
+abbrev pub WritesMachineFault : Disk → Names → Option (List ℕ) → Option (List ℕ) → Bool → ℕ
+    → Type 0
+WritesMachineFault disk names old new failed status =
+    ((operand : List ℕ) × (second_machine names.profiles ≡ Some operand)
+    × WritesFault operand (codes "SecondMachine") old new failed status)
+    ⊎ ((operand : List ℕ) × (table : Option (List Row)) × IsTable disk.reads names.hosts table
+    × (unknown_host table names.profiles ≡ Some operand)
+    × WritesFault operand (codes "UnknownHost") old new failed status)
+
 -- What is wrong with one of the files was written, or that memory is out.
 abbrev pub WritesFileFault : Disk → Names → Option (List ℕ) → Option (List ℕ) → Bool → ℕ → Type 0
 WritesFileFault disk names old new failed status =
@@ -261,9 +296,10 @@ WritesFileFault disk names old new failed status =
     × WritesUnread disk.reads label.1 old new failed status)
     ⊎ (((e : Untaken) × IsUnnamed disk.reads disk.lists names.profiles e
     × WritesUntaken e old new failed status)
-    ⊎ ((file : List ℕ) × (names.hosts ≡ Some file)
+    ⊎ (((file : List ℕ) × (names.hosts ≡ Some file)
     × (WritesUnread disk.reads file old new failed status
-    ⊎ WritesBadHosts disk.reads file old new failed status)))
+    ⊎ WritesBadHosts disk.reads file old new failed status))
+    ⊎ WritesMachineFault disk names old new failed status))
 
 -- The answer is given over these sections and over no other ones, and with `--unison` none of their
 -- profiles reaches the folder of one, where Unison has its archives. Or it was written what is wrong

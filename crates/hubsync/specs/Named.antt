@@ -6,23 +6,24 @@ use Rattle.hub_cli.specs.Words.{Names, names_of}
 use Rattle.hub_cli.specs.declared.files.Options.{Options}
 use Rattle.hub_bundle.specs.declared.part.Kind.{Kind}
 use Rattle.hub_bundle.specs.declared.part.Kind.TheVariants.{Profile}
+use Rattle.hub_folder.specs.Machines.{machine_in, second_machine}
 use Rattle.hub_folder.specs.Operands.{IsUnnamed}
-use Rattle.hub_folder.specs.Told.{path_and_text}
-use Rattle.hub_folder.specs.declared.folder.FolderProfile.{FolderProfile}
+use Rattle.hub_folder.specs.Told.{owned_of}
+use Rattle.hub_folder.specs.declared.operands.NamedProfile.{NamedProfile}
 use Rattle.hub_folder.specs.Reading.{Folders, HasBytes, HasFault, HasFolder, Lists, Reads}
 use Rattle.hub_hosts.specs.Table.{Row, rows_of}
 use denote.Ref.{Bor}
 use Rattle.hubsync.specs.declared.files.Held.{Held}
 use Rattle.hubsync.specs.declared.files.Named.{Named}
 use Rattle.hubsync.specs.declared.files.Unserved.{Unserved}
-use Rattle.hubsync.specs.declared.files.Unserved.TheVariants.{BadHosts, File, Hosts, OutOfMemory, Untaken}
-use Rattle.hubsync.specs.Bundled.{AreFolders, AreRead, AreSections, AreTaken, Disk, Label, Sources, disk_of, for_hosts, for_section, labels}
+use Rattle.hubsync.specs.declared.files.Unserved.TheVariants.{BadHosts, File, Hosts, OutOfMemory, SecondMachine, UnknownHost, Untaken}
+use Rattle.hubsync.specs.Bundled.{AreFolders, AreRead, AreSections, AreTaken, Disk, IsTable, Label, Sources, disk_of, for_hosts, for_section, label_alone, labels, profile_label, unknown_host}
 
 abbrev pub label_named : Named → Label
-label_named n = (n.kind, n.file.now)
+label_named n = label_alone n.kind n.file.now
 
 abbrev pub label_held : Held → Label
-label_held h = (h.kind, string_bytes h.file)
+label_held h = (h.kind, string_bytes h.file, machine_in h.machine)
 
 -- The path of a file that was read, and its bytes.
 abbrev pub bytes_held : Held → List ℕ × List ℕ
@@ -69,15 +70,15 @@ AreAmong ps qs = (p : Path) → Contains ps p → Contains qs p
 
 -- What is held has the labels of these profiles and then of the others, and their texts with paths
 -- in place of the roots of hosts.
-abbrev pub HaveLabels : List FolderProfile → List Held → List Held → Type 0
+abbrev pub HaveLabels : List NamedProfile → List Held → List Held → Type 0
 HaveLabels profiles others held =
     map label_held held
-    ≡ map (λ file. (Profile, file.0)) (map path_and_text profiles) ++ map label_held others
+    ≡ map profile_label (map owned_of profiles) ++ map label_held others
 
-abbrev pub HaveTexts : Option (List Row) → List FolderProfile → List Held → List Held → Type 0
+abbrev pub HaveTexts : Option (List Row) → List NamedProfile → List Held → List Held → Type 0
 HaveTexts table profiles others held =
     map bytes_held held
-    ≡ map (for_hosts table) (map path_and_text profiles) ++ map (bytes_for table) others
+    ≡ map (for_hosts table) (map owned_of profiles) ++ map (bytes_for table) others
 
 -- These labels are added to those of the files that are named.
 abbrev pub AddsLabels : List Named → List Named → List Label → Type 0
@@ -105,6 +106,8 @@ IsUnreadFile reads label (File file fault) = (label.1 ≡ file.now) × HasFault 
 IsUnreadFile reads label (Untaken e) = ⊥
 IsUnreadFile reads label (Hosts file fault) = ⊥
 IsUnreadFile reads label (BadHosts file fault) = ⊥
+IsUnreadFile reads label (SecondMachine operand) = ⊥
+IsUnreadFile reads label (UnknownHost operand) = ⊥
 IsUnreadFile reads label OutOfMemory = Unit {0}
 
 -- What wasn't read is one of these files.
@@ -114,6 +117,8 @@ IsUnreadOf reads ls (File file fault) =
 IsUnreadOf reads ls (Untaken e) = ⊥
 IsUnreadOf reads ls (Hosts file fault) = ⊥
 IsUnreadOf reads ls (BadHosts file fault) = ⊥
+IsUnreadOf reads ls (SecondMachine operand) = ⊥
+IsUnreadOf reads ls (UnknownHost operand) = ⊥
 IsUnreadOf reads ls OutOfMemory = Unit {0}
 
 -- What wasn't read is one of the files that are named.
@@ -127,4 +132,8 @@ IsUnserved disk names (Hosts file fault) =
 IsUnserved disk names (BadHosts file fault) =
     (names.hosts ≡ Some file.now) × ((bytes : List ℕ) × HasBytes disk.reads file.now bytes
     × (rows_of bytes ≡ Err fault))
+IsUnserved disk names (SecondMachine operand) = second_machine names.profiles ≡ Some operand.now
+IsUnserved disk names (UnknownHost operand) =
+    (table : Option (List Row)) × IsTable disk.reads names.hosts table
+    × (unknown_host table names.profiles ≡ Some operand.now)
 IsUnserved disk names OutOfMemory = Unit {0}

@@ -3,8 +3,8 @@ ghost use Rattle.std.specs.Prelude.{◌≡◌, ◌++◌, false, map, IfErr, IfOk
 ghost use Rattle.std.specs.List.{All};
 ghost use Rattle.hub_cli.specs.Words.{names_of};
 ghost use Rattle.hub_bundle.specs.declared.part.Kind.TheVariants.{Profile};
-ghost use Rattle.hub_folder.specs.Told.{path_and_text};
-ghost use Rattle.hubsync.specs.Bundled.{HasContents, IsTable, bytes_of, for_hosts, host_text, label_if, label_of, labels, option_labels, profile_labels, disk_of};
+ghost use Rattle.hub_folder.specs.Told.{owned_of};
+ghost use Rattle.hubsync.specs.Bundled.{HasContents, IsTable, bytes_of, for_hosts, label_if, label_of, labels, option_labels, profile_label, profile_labels, disk_of};
 ghost use Rattle.hubsync.specs.Named.{AddsLabels, HaveLabels, HaveTexts, HoldRead, HoldSections, HoldTaken};
 ghost use Rattle.hubsync.specs.Named.{IsUnreadFile, IsUnreadOf, IsUnserved, OfHosts, bytes_for, bytes_held, label_held, label_named, sources_in, table_in, text_in};
 ghost use Rattle.hubsync.specs.Written.{ServesFilesTo, WritesNothing};
@@ -12,13 +12,19 @@ ghost use Rattle.hubsync.specs.Written.{ServesFilesTo, WritesNothing};
 use crate::bundled::{serve_parts, write_memory};
 use crate::captured::Captured;
 use crate::folders::folders_of;
+use crate::hosts::{for_hosts, unknown_host};
 use crate::left_out::say_left_out;
 use crate::served::{Answered, Capture};
 use crate::sources::{HeldRoot, roots_in, source_files, written_roots};
-use crate::untaken::{write_bad_hosts, write_unread, write_untaken};
+use crate::untaken::{
+    write_bad_hosts, write_second_machine, write_unknown_host, write_unread, write_untaken,
+};
 use hub_bundle::{Kind, Part};
 use hub_cli::{Files, Options};
-use hub_folder::{FileReader, FolderProfile, Origins, ReadFault, Unread, profiles_named};
+use hub_folder::{
+    FileReader, FolderProfile, NamedProfile, Origins, ReadFault, Unread, machine_of,
+    profiles_named, second_machine,
+};
 use hub_hosts::{Hosts, HostsFault};
 use hub_text::Watched;
 use std::alloc::{AllocError, Global};
@@ -36,11 +42,13 @@ struct Named<'a> {
 
 /// A file that was read, and the section that it is for.
 #[derive(Drop)]
-pub struct Held {
+pub struct Held<'a> {
     /// The section.
     pub kind: Kind,
     /// Its path.
     pub file: String,
+    /// The machine that has the profile, if its operand names one.
+    pub machine: Option<&'a str>,
     /// Its bytes.
     pub bytes: Vec<u8>,
     /// Where its lines come from, if not all of them are the file's own.
@@ -53,8 +61,8 @@ pub struct Held {
 
 /// The files that were read.
 #[derive(Drop)]
-struct Sections {
-    held: Vec<Held>,
+struct Sections<'a> {
+    held: Vec<Held<'a>>,
     /// The paths of the files of folders that are no profiles since they set no root.
     rootless: Vec<String>,
 }
@@ -69,6 +77,10 @@ enum Unserved<'a> {
     Hosts(&'a str, ReadFault),
     /// This is wrong with the table of hosts that the file has.
     BadHosts(&'a str, HostsFault),
+    /// The machine of this operand is that of another one, too.
+    SecondMachine(&'a str),
+    /// The table of hosts has no row for the machine of this operand.
+    UnknownHost(&'a str),
     /// Out of memory.
     OutOfMemory,
 }
@@ -116,6 +128,12 @@ pub fn serve_files<
         }
         Err(Unserved::BadHosts(file, fault)) => {
             Answered::plain(write_bad_hosts(rt, file, fault, output))
+        }
+        Err(Unserved::SecondMachine(operand)) => {
+            Answered::plain(write_second_machine(rt, operand, output))
+        }
+        Err(Unserved::UnknownHost(operand)) => {
+            Answered::plain(write_unknown_host(rt, operand, options.files.hosts.is_some(), output))
         }
         Err(Unserved::OutOfMemory) => Answered::plain(write_memory(output)),
     }
@@ -170,7 +188,7 @@ fn read_sections<'a, F: FileReader>(
     alloc: Global,
     reader: &F,
     options: &Options<'a>,
-) -> Result<Sections, Unserved<'a>>
+) -> Result<Sections<'a>, Unserved<'a>>
     ensures ok { IfOk result (λ v. HoldSections F.reads F.lists F.folders reader.now
         (sources_in options.now) v.held.items) }
     ensures err { IfErr result (IsUnserved (disk_of F.reads F.lists F.folders reader.now)
@@ -188,7 +206,7 @@ fn read_plainly<'a, F: FileReader>(
     alloc: Global,
     reader: &F,
     files: &Files<'a>,
-) -> Result<Sections, Unserved<'a>>
+) -> Result<Sections<'a>, Unserved<'a>>
     ensures ok { IfOk result (λ v. HoldRead (F.reads reader.now) (names_of files.now) v.held.items) }
     ensures err { IfErr result (IsUnserved (disk_of F.reads F.lists F.folders reader.now)
         (names_of files.now)) }
@@ -203,18 +221,22 @@ fn read_plainly<'a, F: FileReader>(
     }
 }
 
-/// Reads the files, and the profiles that the operands name for Unison.
+/// Reads the files, and the profiles that the operands name for Unison. No machine may be named twice, and the table of hosts must
+/// have a row for each. (This is this project's choice.)
 #[tactic(auto, using(crate::proofs::FilesFacts::hold_taken))]
 fn read_for_unison<'a, F: FileReader>(
     alloc: Global,
     reader: &F,
     files: &Files<'a>,
-) -> Result<Sections, Unserved<'a>>
+) -> Result<Sections<'a>, Unserved<'a>>
     ensures ok { IfOk result (λ v. HoldTaken F.reads F.lists F.folders reader.now (names_of files.now)
         v.held.items) }
     ensures err { IfErr result (IsUnserved (disk_of F.reads F.lists F.folders reader.now)
         (names_of files.now)) }
 {
+    if let Some(operand) = second_machine(files.profiles.as_slice()) {
+        return Err(Unserved::SecondMachine(operand));
+    }
     let taken = match profiles_named(alloc, reader, files.profiles.as_slice()) {
         Ok(taken) => taken,
         Err(fault) => return Err(Unserved::Untaken(fault)),
@@ -223,6 +245,9 @@ fn read_for_unison<'a, F: FileReader>(
         Ok(hosts) => hosts,
         Err(fault) => return Err(fault),
     };
+    if let Some(operand) = unknown_host(hosts.as_ref(), files.profiles.as_slice()) {
+        return Err(Unserved::UnknownHost(operand));
+    }
     let named = option_files(alloc, files, Vec::new(alloc))?;
     match read_all(alloc, reader, named.as_slice()) {
         Ok(others) => Ok(Sections {
@@ -258,15 +283,15 @@ fn read_hosts<'a, F: FileReader>(
 }
 
 /// These profiles, and then the other files.
-fn with_profiles(
+fn with_profiles<'a>(
     alloc: Global,
-    profiles: Vec<FolderProfile>,
+    profiles: Vec<NamedProfile<'a>>,
     hosts: Option<&Hosts>,
-    others: Vec<Held>,
-) -> Result<Vec<Held>, AllocError>
-    ensures labels { IfOk result (λ v. HaveLabels profiles.items others.items v.items) }
-    ensures bytes { IfOk result (λ v. HaveTexts (table_in hosts.entry) profiles.items others.items
-        v.items) }
+    others: Vec<Held<'a>>,
+) -> Result<Vec<Held<'a>>, AllocError>
+    ensures labels { IfOk result (λ v. HaveLabels profiles.entry.items others.entry.items v.items) }
+    ensures bytes { IfOk result (λ v. HaveTexts (table_in hosts.entry) profiles.entry.items
+        others.entry.items v.items) }
 {
     let mut held = Vec::new(alloc);
     for profile in profiles {
@@ -277,53 +302,45 @@ fn with_profiles(
 }
 
 /// A profile that was told, with paths in place of the roots of hosts.
-fn held_profile(
+fn held_profile<'a>(
     alloc: Global,
-    profile: FolderProfile,
+    named: NamedProfile<'a>,
     hosts: Option<&Hosts>,
-) -> Result<Held, AllocError>
-    ensures label { IfOk result (λ h. label_held h ≡ (Profile, (path_and_text profile).0)) }
+) -> Result<Held<'a>, AllocError>
+    ensures label { IfOk result (λ h. label_held h ≡ profile_label (owned_of named.entry)) }
     ensures bytes { IfOk result (λ h. bytes_held h
-        ≡ for_hosts (table_in hosts.entry) (path_and_text profile)) }
+        ≡ for_hosts (table_in hosts.entry) (owned_of named.entry)) }
 {
+    let NamedProfile { machine, profile } = named;
     let FolderProfile {
         path,
         text,
         origins,
         left_out,
     } = profile;
-    let roots = roots_in(alloc, text.as_slice(), hosts)?;
+    let roots = roots_in(alloc, text.as_slice(), machine, hosts)?;
     Ok(Held {
         kind: Kind::Profile,
         file: path,
-        bytes: for_hosts(alloc, text, hosts)?,
+        machine,
+        bytes: for_hosts(alloc, text, machine, hosts)?,
         origins: Some(origins),
         left_out,
         roots,
     })
 }
 
-/// A text with paths in place of the roots of hosts.
-fn for_hosts(alloc: Global, text: Vec<u8>, hosts: Option<&Hosts>) -> Result<Vec<u8>, AllocError>
-    ensures { IfOk result (λ v. v.items ≡ host_text (table_in hosts.entry) text.items) }
-{
-    match hosts {
-        Some(hosts) => hosts.text_for(alloc, text.as_slice()),
-        None => Ok(text),
-    }
-}
-
 /// Adds these files, with paths in place of the roots of hosts in rules.
-fn push_others(
+fn push_others<'a>(
     alloc: Global,
-    held: &mut Vec<Held>,
-    others: Vec<Held>,
+    held: &mut Vec<Held<'a>>,
+    others: Vec<Held<'a>>,
     hosts: Option<&Hosts>,
 ) -> Result<(), AllocError>
     ensures labels { OnOk result (map label_held held.new.items
-        ≡ map label_held held.old.items ++ map label_held others.items) }
+        ≡ map label_held held.old.items ++ map label_held others.entry.items) }
     ensures bytes { OnOk result (map bytes_held held.new.items
-        ≡ map bytes_held held.old.items ++ map (bytes_for (table_in hosts.entry)) others.items) }
+        ≡ map bytes_held held.old.items ++ map (bytes_for (table_in hosts.entry)) others.entry.items) }
 {
     for other in others {
         held.push(held_other(alloc, other, hosts)?)?;
@@ -332,25 +349,31 @@ fn push_others(
 }
 
 /// A file of an option, with paths in place of the roots of hosts if it has rules.
-fn held_other(alloc: Global, other: Held, hosts: Option<&Hosts>) -> Result<Held, AllocError>
-    ensures label { IfOk result (λ h. label_held h ≡ label_held other) }
-    ensures bytes { IfOk result (λ h. bytes_held h ≡ bytes_for (table_in hosts.entry) other) }
+fn held_other<'a>(
+    alloc: Global,
+    other: Held<'a>,
+    hosts: Option<&Hosts>,
+) -> Result<Held<'a>, AllocError>
+    ensures label { IfOk result (λ h. label_held h ≡ label_held other.entry) }
+    ensures bytes { IfOk result (λ h. bytes_held h ≡ bytes_for (table_in hosts.entry) other.entry) }
 {
     let Held {
         kind,
         file,
+        machine,
         bytes,
         origins,
         left_out,
         roots,
     } = other;
     let bytes = match kind {
-        Kind::Profile | Kind::Rules => for_hosts(alloc, bytes, hosts)?,
+        Kind::Profile | Kind::Rules => for_hosts(alloc, bytes, None, hosts)?,
         Kind::State | Kind::Certificates => bytes,
     };
     Ok(Held {
         kind,
         file,
+        machine,
         bytes,
         origins,
         left_out,
@@ -415,7 +438,7 @@ fn read_all<'a, F: FileReader>(
     alloc: Global,
     reader: &F,
     named: &[Named<'a>],
-) -> Result<Vec<Held>, Unserved<'a>>
+) -> Result<Vec<Held<'a>>, Unserved<'a>>
     ensures labels { IfOk result (λ v. map label_held v.items ≡ map label_named named.now) }
     ensures bytes { IfOk result
         (λ v. All (HasContents (F.reads reader.now)) (map bytes_held v.items)) }
@@ -436,7 +459,7 @@ fn read_one<'a, F: FileReader>(
     alloc: Global,
     reader: &F,
     named: Named<'a>,
-) -> Result<Held, Unserved<'a>>
+) -> Result<Held<'a>, Unserved<'a>>
     ensures label { IfOk result (λ h. label_held h ≡ label_named named.entry) }
     ensures bytes { IfOk result (λ h. HasContents (F.reads reader.now) (bytes_held h)) }
     ensures err { IfErr result (IsUnreadFile (F.reads reader.now) (label_named named.entry)) }
@@ -447,6 +470,7 @@ fn read_one<'a, F: FileReader>(
         Ok(bytes) => Ok(Held {
             kind,
             file: path,
+            machine: None,
             bytes,
             origins: None,
             left_out: Vec::new(alloc),
@@ -458,7 +482,7 @@ fn read_one<'a, F: FileReader>(
 }
 
 /// The sections of the files.
-fn parts_of<'a>(alloc: Global, held: &'a [Held]) -> Result<Vec<Part<'a>>, AllocError>
+fn parts_of<'a>(alloc: Global, held: &'a [Held<'a>]) -> Result<Vec<Part<'a>>, AllocError>
     ensures labels { IfOk result (λ v. map label_of v.items ≡ map label_held held.now) }
     ensures bytes { IfOk result (λ v. map bytes_of v.items ≡ map bytes_held held.now) }
 {
@@ -467,6 +491,7 @@ fn parts_of<'a>(alloc: Global, held: &'a [Held]) -> Result<Vec<Part<'a>>, AllocE
         parts.push(Part {
             kind: one.kind,
             file: one.file.as_str(),
+            machine: one.machine,
             bytes: one.bytes.as_slice(),
         })?;
     }

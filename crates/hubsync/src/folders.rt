@@ -16,7 +16,7 @@ pub fn folders_of<F: FileReader>(
     alloc: Global,
     reader: &F,
     is_for_unison: bool,
-    held: &[Held],
+    held: &[Held<'_>],
 ) -> Result<Vec<Root>, AllocError>
     ensures { OfReading is_for_unison (λ sources. IfOk result (λ v. HoldFolders
         (disk_of F.reads F.lists F.folders reader.now) sources held.now v.items)) }
@@ -35,7 +35,7 @@ pub fn folders_of<F: FileReader>(
 fn push_folder<F: FileReader>(
     alloc: Global,
     reader: &F,
-    one: &Held,
+    one: &Held<'_>,
     folders: &mut Vec<Root>,
 ) -> Result<(), AllocError>
     ensures added { OnOk result (AddsFolder (F.folders reader.now) one.now folders.new.items) }
@@ -51,7 +51,7 @@ fn push_folder<F: FileReader>(
 }
 
 /// Returns whether a file is that of a profile.
-fn is_profile(one: &Held) -> bool
+fn is_profile(one: &Held<'_>) -> bool
     ensures { result ≡ is_of_profile one.now.kind }
 {
     matches!(one.kind, Kind::Profile)

@@ -5,7 +5,7 @@ use std::io::Eprint;
 
 /// Says which files of folders are no profiles, since another one includes them or since they set no root. Returns whether there are
 /// such: they may be run, too. If standard error fails, there is nobody left to tell.
-pub fn say_left_out<T: Eprint>(rt: &T, held: &[Held], rootless: &[String]) -> bool {
+pub fn say_left_out<T: Eprint>(rt: &T, held: &[Held<'_>], rootless: &[String]) -> bool {
     let mut has_left_out = !rootless.is_empty();
     for one in held {
         say_included(rt, one);
@@ -18,7 +18,7 @@ pub fn say_left_out<T: Eprint>(rt: &T, held: &[Held], rootless: &[String]) -> bo
 }
 
 /// Says which files are no profiles since this one includes them.
-fn say_included<T: Eprint>(rt: &T, one: &Held) {
+fn say_included<T: Eprint>(rt: &T, one: &Held<'_>) {
     let file = one.file.as_str();
     for path in one.left_out.iter() {
         let _ = eprintln!(rt;

@@ -12,6 +12,7 @@ mod bundled;
 mod captured;
 mod files;
 mod folders;
+mod hosts;
 mod left_out;
 mod reader;
 mod served;

@@ -25,10 +25,11 @@ impl HeldRoot {
     }
 }
 
-/// The roots of this text of a profile that have paths in their place by a table of hosts.
+/// The roots of this text of a profile, maybe of a machine, that have paths in their place by a table of hosts.
 pub fn roots_in(
     alloc: Global,
     text: &[u8],
+    machine: Option<&str>,
     hosts: Option<&Hosts>,
 ) -> Result<Vec<HeldRoot>, AllocError> {
     let mut roots = Vec::new(alloc);
@@ -37,7 +38,7 @@ pub fn roots_in(
     };
     for line in Lines::new(text) {
         if let Some(root) = root_of(line.text) {
-            push_root(alloc, &mut roots, root, hosts)?;
+            push_root(alloc, &mut roots, root, machine, hosts)?;
         }
     }
     Ok(roots)
@@ -48,13 +49,14 @@ fn push_root(
     alloc: Global,
     roots: &mut Vec<HeldRoot>,
     root: &[u8],
+    machine: Option<&str>,
     hosts: &Hosts,
 ) -> Result<(), AllocError> {
-    if let Some(path) = hosts.path_of(alloc, root)? {
+    if let Some(path) = hosts.path_of(alloc, machine, root)? {
         roots.push(HeldRoot {
             path,
             written: Vec::from_slice(alloc, root)?,
-            folds: hosts.folds_names(root),
+            folds: hosts.folds_names(machine, root),
         })?;
     }
     Ok(())
@@ -63,7 +65,7 @@ fn push_root(
 /// The roots of each of these files.
 pub fn written_roots<'a>(
     alloc: Global,
-    held: &'a [Held],
+    held: &'a [Held<'a>],
 ) -> Result<Vec<Vec<WrittenRoot<'a>>>, AllocError> {
     let mut all = Vec::new(alloc);
     for one in held {
@@ -91,7 +93,7 @@ fn written_in<'a>(
 /// The files, as remarks name their lines and roots.
 pub fn source_files<'a, 'h: 'a>(
     alloc: Global,
-    held: &'h [Held],
+    held: &'h [Held<'h>],
     roots: &'a [Vec<WrittenRoot<'h>>],
 ) -> Result<Vec<SourceFile<'a>>, AllocError> {
     let mut files = Vec::new(alloc);

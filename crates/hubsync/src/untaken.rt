@@ -6,8 +6,8 @@ ghost use Rattle.hubsync.specs.Written.{ReportsFault, ReportsUntaken};
 
 use crate::bundled::{write_fault, write_memory};
 use crate::captured::Captured;
-use hub_folder::{ReadFault, Untaken};
-use hub_hosts::HostsFault;
+use hub_folder::{ReadFault, Untaken, machine_of};
+use hub_hosts::{Hosts, HostsFault};
 use hub_include::{LineFault, Why};
 use hub_source::shown;
 use hub_text::Watched;
@@ -118,6 +118,72 @@ pub fn write_bad_hosts<T: AllocGlobal + Eprint, W: Write>(
             status
         }
         HostsFault::OutOfMemory => write_memory(output),
+    }
+}
+
+/// Says that the machine of this operand is that of another one, too.
+pub fn write_second_machine<T: AllocGlobal + Eprint, W: Write>(
+    rt: &T,
+    operand: &str,
+    output: &mut Watched<Captured<'_, W>>,
+) -> u8
+    requires { output.old.failed ≡ false }
+    ensures { ReportsFault output.old output.new W.contents operand.now (codes "SecondMachine") result }
+{
+    let status = write_fault(rt.alloc(), operand.as_bytes(), "SecondMachine", output);
+    let _ = eprintln!(rt;
+        "hubsync: another operand has this machine: name each machine once, with one folder or file"
+    );
+    status
+}
+
+/// Says that the table of hosts has no row for the machine of this operand, or that there is no table.
+pub fn write_unknown_host<T: AllocGlobal + Eprint, W: Write>(
+    rt: &T,
+    operand: &str,
+    has_table: bool,
+    output: &mut Watched<Captured<'_, W>>,
+) -> u8
+    requires { output.old.failed ≡ false }
+    ensures { ReportsFault output.old output.new W.contents operand.now (codes "UnknownHost") result }
+{
+    let status = write_fault(rt.alloc(), operand.as_bytes(), "UnknownHost", output);
+    let _ = say_unknown_host(rt, machine_of(operand).unwrap_or(""), has_table);
+    status
+}
+
+/// Says on standard error which line the table of hosts wants. If that fails, there is nobody left to tell.
+fn say_unknown_host<T: AllocGlobal + Eprint>(
+    rt: &T,
+    machine: &str,
+    has_table: bool,
+) -> Result<(), AllocError> {
+    let row = format!(in rt.alloc(); "{machine} /hosts/{machine}")?;
+    let row = row.as_str();
+    if !is_row_for(rt.alloc(), row, machine) {
+        let _ = eprintln!(rt;
+            "hubsync: no line of a table of hosts names {machine}: write a host's name before the ="
+        );
+        return Ok(());
+    }
+    let _ = if has_table {
+        eprintln!(rt;
+            "hubsync: add this line to the table of --hosts, with the path of its / here:"
+        )
+    } else {
+        eprintln!(rt;
+            "hubsync: add --hosts FILE, where FILE has this line, with the path of its / here:"
+        )
+    };
+    let _ = eprintln!(rt; "hubsync:     {row}");
+    Ok(())
+}
+
+/// Returns whether a table of this line has the machine.
+fn is_row_for(alloc: Global, row: &str, machine: &str) -> bool {
+    match Hosts::read(alloc, row.as_bytes()) {
+        Ok(hosts) => hosts.has_machine(machine),
+        Err(_) => false,
     }
 }
 

@@ -1,8 +1,8 @@
 -- Worked values. Those of texts are what a script in Perl wrote that did the same, but for blanks,
 -- and where a comment says so.
-use Rattle.std.specs.Prelude.{◌≡◌, ℕ, false, true, List, [], ◌∷◌, Ok, Err, codes, refl}
+use Rattle.std.specs.Prelude.{◌≡◌, ℕ, false, true, List, [], ◌∷◌, None, Some, Ok, Err, codes, refl}
 use Rattle.hub_hosts.specs.Profiles.{text_for}
-use Rattle.hub_hosts.specs.Remotes.{folds_names}
+use Rattle.hub_hosts.specs.Remotes.{folds_names, has_machine, path_of}
 use Rattle.hub_hosts.specs.Table.{Row, rows_of}
 use Rattle.hub_hosts.specs.declared.fault.HostsFault.TheVariants.{BadLine, SecondLine}
 
@@ -73,7 +73,7 @@ rows =
 
 -- The text of a line.
 abbrev told : List ℕ → List ℕ
-told line = text_for rows line
+told line = text_for rows None line
 
 a_root : told (codes "root = ssh://build//srv/src\nroot = /srv/src\n")
     ≡ codes "root = /hosts/build/srv/src\nroot = /srv/src\n"
@@ -158,21 +158,68 @@ folding_rows =
     folding (row (codes "bob@pc") (codes "/pc")) ∷ row (codes "anna@pc") (codes "/anna")
     ∷ home_row (codes "pc") (codes "/home") ∷ []
 
-a_root_there_folds : folds_names folding_rows (codes "ssh://bob@PC:22//srv") ≡ true
+a_root_there_folds : folds_names folding_rows None (codes "ssh://bob@PC:22//srv") ≡ true
 a_root_there_folds = refl
 
-a_user_without_a_mark : folds_names folding_rows (codes "ssh://anna@pc//srv") ≡ true
+a_user_without_a_mark : folds_names folding_rows None (codes "ssh://anna@pc//srv") ≡ true
 a_user_without_a_mark = refl
 
-a_home_without_a_mark : folds_names folding_rows (codes "ssh://pc/srv") ≡ true
+a_home_without_a_mark : folds_names folding_rows None (codes "ssh://pc/srv") ≡ true
 a_home_without_a_mark = refl
 
-a_host_that_the_table_lacks : folds_names folding_rows (codes "ssh://desk//srv") ≡ false
+a_host_that_the_table_lacks : folds_names folding_rows None (codes "ssh://desk//srv") ≡ false
 a_host_that_the_table_lacks = refl
 
-a_root_here : folds_names folding_rows (codes "/srv") ≡ false
+a_root_here : folds_names folding_rows None (codes "/srv") ≡ false
 a_root_here = refl
 
 the_root_of_a_rule : told (codes "root = ssh://build//srv\nnolose = Path a -> ssh://build//x\n")
     ≡ codes "root = /hosts/build/srv\nnolose = Path a -> ssh://build//x\n"
 the_root_of_a_rule = refl
+
+-- The text of a line of a profile of the machine `build`.
+abbrev told_there : List ℕ → List ℕ
+told_there line = text_for rows (Some (codes "build")) line
+
+a_root_there : told_there (codes "root = /home/anna\nroot = ssh://top//srv/src\n")
+    ≡ codes "root = /hosts/build/home/anna\nroot = /srv/src\n"
+a_root_there = refl
+
+it_is_the_same_by_ssh : told (codes "root = ssh://build//home/anna")
+    ≡ codes "root = /hosts/build/home/anna"
+it_is_the_same_by_ssh = refl
+
+roots_there_behind_other_names : told_there (codes "force = /a\nprefer =/b\nnocreation= /c/\n")
+    ≡ codes "force = /hosts/build/a\nprefer =/hosts/build/b\nnocreation= /hosts/build/c\n"
+roots_there_behind_other_names = refl
+
+a_root_there_behind_an_arrow : told_there (codes "nodeletionpartial = Path a/b -> /srv ")
+    ≡ codes "nodeletionpartial = Path a/b -> /hosts/build/srv "
+a_root_there_behind_an_arrow = refl
+
+the_whole_machine : told_there (codes "root = /") ≡ codes "root = /hosts/build"
+the_whole_machine = refl
+
+what_is_no_root_there : told_there (codes "force = newer\npath = /a\nroot = a\nroot = //a\n")
+    ≡ codes "force = newer\npath = /a\nroot = a\nroot = //a\n"
+what_is_no_root_there = refl
+
+a_user_of_the_machine : path_of rows (Some (codes "anna@BUILD:22")) (codes "/x")
+    ≡ Some (codes "/hosts/anna/x")
+a_user_of_the_machine = refl
+
+equal_roots_of_two_machines : path_of rows (Some (codes "top")) (codes "/x") ≡ Some (codes "/x")
+equal_roots_of_two_machines = refl
+
+a_row_for_a_machine : has_machine rows (codes "bob@Build") ≡ true
+a_row_for_a_machine = refl
+
+a_row_for_its_homes_alone : has_machine rows (codes "laptop") ≡ false
+a_row_for_its_homes_alone = refl
+
+a_root_there_folds_names : folds_names folding_rows (Some (codes "pc")) (codes "/srv") ≡ true
+a_root_there_folds_names = refl
+
+a_root_on_the_hub_does_not : folds_names folding_rows (Some (codes "pc")) (codes "ssh://hub//srv")
+    ≡ false
+a_root_on_the_hub_does_not = refl

@@ -4,7 +4,7 @@ use Rattle.hubsync.specs.Bundled.{Disk, ServesFiles, Sources}
 use Rattle.hubsync.specs.Named.{sources_in}
 use Rattle.hubsync.specs.Process.{sources_of}
 use Rattle.hubsync.specs.Strict.{strict_status_of}
-use Rattle.hubsync.proofs.Words.{by_files}
+use Rattle.hubsync.proofs.Words.{by_files, out_of_memory}
 use Rattle.hubsync.proofs.answer.Goals as goal
 
 pub returns-then-not-is_empty : goal.returns-then-not-is_empty
@@ -21,3 +21,6 @@ returns-then-not-is_empty g c =
     by_files words answered.may_mislead answered.status some c.in-Ok.ensures.asked
     (subst (λ (sources : Sources). ServesFiles disk (asked_of words) sources old new failed answered.status) sources c.serve_files-answered.ensures)
     (c.strict_status.ensures ∙ ap (λ strict. strict_status_of strict answered.may_mislead answered.status) c.in-Ok.ensures.strict)
+
+pub returns-then-eq : goal.returns-then-eq
+returns-then-eq g c = out_of_memory (map string_bytes c.args.words.now) c.write_memory.ensures

@@ -1,10 +1,10 @@
 //! What is asked of the profiles with the lines that are found.
 use crate::case::{Case, cases_of};
 use crate::cut::{is_profile, is_rules};
+use crate::office::Office;
 use crate::piece::Piece;
-use crate::set::{read_in, set_in};
+use crate::set::{faults_in, is_searchable, read_in};
 use crate::subject::Subject;
-use crate::takes_away::{only_take_away, only_takes_away};
 use crate::text::{mended_text, push_piece};
 use hub_cert::{CheckFault, ProfileSet};
 use hub_profile::{Profile, Rules};
@@ -12,19 +12,6 @@ use hub_search::faults;
 use hub_text::Items;
 use std::alloc::{AllocError, Global};
 use std::collections::BTreeSet;
-
-/// The profiles and the rules to which lines are added.
-#[derive(Drop)]
-pub(crate) struct Office {
-    pub(crate) alloc: Global,
-    /// Whether the profiles are read for Unison.
-    pub(crate) for_unison: bool,
-    /// The profiles as their lines say.
-    pub(crate) profiles: Items<Profile>,
-    /// The same profiles as they are read.
-    pub(crate) readings: Items<Profile>,
-    pub(crate) rules: Rules,
-}
 
 impl Office {
     /// What is still unsafe of these cases with the lines that there are, by one search of the profiles that they are about.
@@ -34,10 +21,10 @@ impl Office {
         cases: &[Case],
     ) -> Result<Vec<Case>, AllocError> {
         let profiles = profiles_of(self.alloc, cases)?;
-        let text = self.text_of(pieces, profiles.as_slice())?;
-        match set_in(self.alloc, text.as_slice(), self.for_unison)? {
-            Some(set) => {
-                let left = cases_of(self.alloc, faults(self.alloc, &set)?)?;
+        let text = self.text_of(pieces, profiles.as_slice(), true)?;
+        match faults_in(self.alloc, text.as_slice(), self.is_for_unison())? {
+            Some(faults) => {
+                let left = cases_of(self.alloc, faults)?;
                 Ok(with_numbers(left, profiles.as_slice()))
             }
             None => Ok(Vec::new(self.alloc)),
@@ -50,7 +37,7 @@ impl Office {
         if matches!(case.fault, CheckFault::TooLarge { .. }) {
             return self.is_mended(pieces, case);
         }
-        match self.read(pieces, case.subject)? {
+        match self.read_with_lines(pieces, case.subject)? {
             Some((profiles, rules)) => {
                 Ok(!case.is_shown(self.alloc, profiles.as_slice(), rules.as_slice())?)
             }
@@ -78,45 +65,30 @@ impl Office {
         }
     }
 
-    /// Returns whether there is room for the lines of all profiles: these are a set, and only take away.
+    /// Returns whether there is room for the lines of all profiles: these can be searched, and only take away.
     pub(crate) fn has_room(&self, pieces: &[Piece]) -> Result<bool, AllocError> {
         let text = mended_text(self.alloc, pieces)?;
-        match read_in(self.alloc, text.as_slice(), self.for_unison)? {
-            Some((profiles, rules)) => {
+        match Office::read(self.alloc, text.as_slice(), self.is_for_unison())? {
+            Some(new) => {
                 Ok(
-                    only_take_away(self.readings.as_slice(), profiles.as_slice())
-                        && ProfileSet::new(self.alloc, profiles, rules).is_ok(),
+                    new.only_takes_away_from(self)
+                        && is_searchable(self.alloc, text.as_slice(), self.is_for_unison())?,
                 )
             }
             None => Ok(false),
         }
     }
 
-    /// The set of the profiles that it is about, with their lines, and of the rules. There is none if a line doesn't fit into a limit,
+    /// The set of the profiles that it is about, with their lines, and of the rules that it is read with. There is none if a line doesn't fit into a limit,
     /// of a profile or of a set, or keeps another one from being read as it was: then one of these profiles takes more than away.
     fn set_of(&self, pieces: &[Piece], subject: Subject) -> Result<Option<ProfileSet>, AllocError> {
-        let Some((profiles, rules)) = self.read(pieces, subject)? else {
+        let Some((profiles, rules)) = self.read_with_lines(pieces, subject)? else {
             return Ok(None);
         };
-        if !self.take_away(subject, profiles.as_slice()) {
+        if !self.is_taken_from(subject, profiles.as_slice()) {
             return Ok(None);
         }
         Ok(ProfileSet::new(self.alloc, profiles, rules).ok())
-    }
-
-    /// Returns whether the profiles that it is about, which are these now, only take away from what they were.
-    fn take_away(&self, subject: Subject, profiles: &[Profile]) -> bool {
-        let ends = subject.ends();
-        for (new, number) in profiles.iter().zip(ends.iter()) {
-            let is_less = match self.readings.as_slice().get(*number) {
-                Some(old) => only_takes_away(old, new),
-                None => false,
-            };
-            if !is_less {
-                return false;
-            }
-        }
-        true
     }
 
     /// Returns whether that is unsafe in the set of the profiles that it is about.
@@ -134,25 +106,34 @@ impl Office {
         Ok(false)
     }
 
-    /// The profiles that it is about, with their lines, and the rules.
-    fn read(
+    /// The profiles that it is about, with their lines, and the rules. For Unison two profiles are read without them.
+    fn read_with_lines(
         &self,
         pieces: &[Piece],
         subject: Subject,
     ) -> Result<Option<(Items<Profile>, Rules)>, AllocError> {
-        let text = self.text_of(pieces, &subject.ends())?;
-        read_in(self.alloc, text.as_slice(), self.for_unison)
+        let with_rules = match subject {
+            Subject::Pair(_, _) => !self.is_for_unison(),
+            Subject::Rule(_, _) => true,
+        };
+        let text = self.text_of(pieces, &subject.ends(), with_rules)?;
+        read_in(self.alloc, text.as_slice(), self.is_for_unison())
     }
 
-    /// The text of the profiles of these ascending numbers, with their lines, and of the rules.
-    fn text_of(&self, pieces: &[Piece], profiles: &[usize]) -> Result<Vec<u8>, AllocError> {
+    /// The text of the profiles of these ascending numbers, with their lines, and of the rules, if these are to be there.
+    fn text_of(
+        &self,
+        pieces: &[Piece],
+        profiles: &[usize],
+        with_rules: bool,
+    ) -> Result<Vec<u8>, AllocError> {
         let mut text = Vec::new(self.alloc);
         let mut number: usize = 0;
         for piece in pieces {
             let is_its = if is_profile(piece) {
                 profiles.binary_search(&number).is_ok()
             } else {
-                is_rules(piece)
+                with_rules && is_rules(piece)
             };
             if is_its {
                 push_piece(&mut text, piece)?;

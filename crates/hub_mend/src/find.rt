@@ -1,27 +1,26 @@
 //! Finds lines. What is found is read again and checked by others, so nothing here has a contract.
-use crate::asked::Office;
 use crate::case::{Case, cases_of};
 use crate::cut::{cut_at_headings, is_profile};
 use crate::hidden::{drop_hidden, has_no_line, is_hidden};
 use crate::needless::drop_needless;
+use crate::office::Office;
 use crate::piece::Piece;
 use crate::proposals::{Proposal, proposals_for};
-use crate::set::{own_in, set_in};
+use crate::set::faults_in;
 use crate::subject::Subject;
 use hub_cert::CheckFault;
-use hub_search::faults;
 use hub_text::Items;
 use std::alloc::{AllocError, Global};
 use std::collections::BTreeSet;
 
-/// Cuts a bundle into parts, and finds lines that make the set of its profiles and rules safe, as far as lines may that only
-/// take away.
+/// Cuts a bundle into parts, and finds lines that make its profiles and rules safe, as far as lines may that only take away.
 ///
 /// For a clash of two profiles of which one has a folder and the other one a part of it, the first one leaves the part out, and
 /// makes no change at the folders between at the roots of both. For what breaks a rule it is a bar on the rule's pattern, or else
 /// on the root. No line is found that isn't needed, or that mends nothing, or for which there is no room in a limit of a profile
 /// or of a set. As they are read for Unison, some lines of a profile take two of the lines that it may have; so one more may have
-/// no room though the profile has fewer.
+/// no room though the profile has fewer. For Unison what is unsafe is said by `hub_apart`: each two near profiles are looked at
+/// without the rules, and each one beside them. Two with nested roots get no line.
 ///
 /// The cost is mostly two searches of all goals. What isn't mended by the first lines makes a search of all goals more, and each
 /// line that isn't needed one of two profiles for each two that clash.
@@ -31,20 +30,11 @@ pub fn pieces_with_lines(
     for_unison: bool,
 ) -> Result<Vec<Piece>, AllocError> {
     let pieces = cut_at_headings(alloc, bytes)?;
-    let Some(set) = set_in(alloc, bytes, for_unison)? else {
+    let Some(found) = faults_in(alloc, bytes, for_unison)? else {
         return Ok(pieces);
     };
-    let found = faults(alloc, &set)?;
-    match own_in(alloc, bytes, for_unison)? {
-        Some((profiles, rules)) if !found.is_empty() => {
-            let (readings, _) = set.into_members();
-            let office = Office {
-                alloc,
-                for_unison,
-                profiles,
-                readings,
-                rules,
-            };
+    match Office::read(alloc, bytes, for_unison)? {
+        Some(office) if !found.is_empty() => {
             let pieces = mended(&office, pieces, found)?;
             with_room(&office, pieces)
         }
@@ -55,12 +45,17 @@ pub fn pieces_with_lines(
 /// These parts, without any lines if there is no room for all of them. Each list of lines was tried by itself before.
 fn with_room(office: &Office, pieces: Vec<Piece>) -> Result<Vec<Piece>, AllocError> {
     let mut pieces = pieces;
-    if !office.has_room(pieces.as_slice())? {
+    if has_lines(pieces.as_slice()) && !office.has_room(pieces.as_slice())? {
         for piece in pieces.iter_mut() {
             piece.lines.clear();
         }
     }
     Ok(pieces)
+}
+
+/// Returns whether lines are to follow some of these parts.
+fn has_lines(pieces: &[Piece]) -> bool {
+    pieces.iter().any(|piece| !piece.lines.is_empty())
 }
 
 /// The parts with lines by which what is unsafe is mended, as far as it can be.

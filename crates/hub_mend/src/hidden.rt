@@ -1,7 +1,7 @@
 //! What lines leave out, and lines about it.
-use crate::asked::Office;
 use crate::cut::is_profile;
 use crate::line::ignore_line;
+use crate::office::Office;
 use crate::piece::Piece;
 use crate::subject::Subject;
 use hub_path::RelPath;

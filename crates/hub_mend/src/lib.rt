@@ -13,7 +13,8 @@
 //!
 //! From `hub_serve/src/mend.rt`.
 //!
-//! What finds lines isn't trusted: its caller reads the bundle with them, compares the profiles, and checks the set. A profile has
+//! What finds lines isn't trusted: its caller reads the bundle with them, compares the profiles, and checks the set. For Unison
+//! two profiles are looked at without the rules, and one beside them, as `hub_apart` does; how many there are isn't limited. A profile has
 //! `docs`, and another one `docs/lists`: the first gets `ignore = Path docs/lists`, and `noupdatepartial` and `nocreationpartial`
 //! of `docs` at the root that both have.
 //!
@@ -42,6 +43,7 @@ mod find;
 mod hidden;
 mod line;
 mod needless;
+mod office;
 mod piece;
 mod placed;
 mod proposals;

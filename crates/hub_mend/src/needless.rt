@@ -1,8 +1,8 @@
 //! Drops lines that aren't needed.
-use crate::asked::Office;
 use crate::case::Case;
 use crate::cut::is_profile;
 use crate::hidden::has_parts;
+use crate::office::Office;
 use crate::piece::Piece;
 use crate::proposals::proposals_for;
 use crate::subject::Subject;

@@ -1,6 +1,6 @@
 //! Lines that may mend what is unsafe.
-use crate::asked::Office;
 use crate::line::{bar_line, ignore_line, partial_line, paths_over, rule_line};
+use crate::office::Office;
 use crate::subject::Subject;
 use hub_path::{RelPath, Root};
 use hub_profile::{Profile, Verb};
@@ -146,9 +146,9 @@ fn push_bars(
     Ok(())
 }
 
-/// Returns whether the profile of that number may make changes of a kind at a root, as it is read.
+/// Returns whether the profile of that number may make changes of a kind at a root, as it is read where two are looked at.
 fn may_change(office: &Office, number: usize, root: &Root, verb: Verb) -> bool {
-    match office.readings.as_slice().get(number) {
+    match office.read_of_two().get(number) {
         Some(profile) => may(profile, root, verb),
         None => false,
     }

@@ -25,7 +25,8 @@ _hubsync() {
         plan/-* | import/-*) candidates='--rules --strict --hosts --verbose -h --help' ;;
         clashes/-*) candidates='--rules --state --certificates --strict --unison --hosts --verbose --dot -h --help' ;;
         mend/-*) candidates='--rules --state --certificates --strict --unison --hosts --verbose --bundle -h --help' ;;
-        check/-* | rounds/-*) candidates='--rules --state --certificates --strict --unison --hosts --verbose -h --help' ;;
+        check/-*) candidates='--rules --state --certificates --strict --unison --hosts --verbose -h --help' ;;
+        rounds/-*) candidates='--rules --state --certificates --strict --unison --hosts --verbose --alone -h --help' ;;
         run/-*) candidates='--rules --state --certificates --strict --workers --rounds --in-order -h --help' ;;
         */-*) candidates='--rules --state --certificates --strict -h --help' ;;
         run/*) [[ $before != --workers ]] || candidates='1 2 3 4 5 6 7 8 9 10 11 12 13 14 15 16' ;;

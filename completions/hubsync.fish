@@ -29,5 +29,6 @@ complete -c hubsync -n '__fish_seen_subcommand_from run' -l workers -x -a '(seq 
 complete -c hubsync -n '__fish_seen_subcommand_from run' -l rounds -d 'Run the rounds of the set one after another'
 complete -c hubsync -n '__fish_seen_subcommand_from run' -l in-order -d 'Run the jobs of any set as if one after another, in their order'
 complete -c hubsync -n '__fish_seen_subcommand_from clashes' -l dot -d 'Draw what clashes as a graph for Graphviz'
+complete -c hubsync -n '__fish_seen_subcommand_from rounds' -l alone -d 'For Unison, let each profile that cannot be read run alone'
 complete -c hubsync -n '__fish_seen_subcommand_from mend' -l bundle -d 'Write the bundle with the lines in place'
 complete -c hubsync -n '__fish_seen_subcommand_from help' -a 'check certify verify clashes mend rounds plan import reach run help'

@@ -16,7 +16,7 @@ use Rattle.clap.specs.declared.builder.action.ArgAction.TheVariants.{Append, Set
 use Rattle.clap.specs.declared.builder.value_parser.ValueParser.TheVariants.{Signed}
 use Rattle.hub_cli.specs.declared.files.Files.{Files}
 use Rattle.hub_cli.specs.declared.words.Query.{Query}
-use Rattle.hub_cli.specs.declared.words.Query.TheVariants.{About, Reach, Import, Plan, Mend}
+use Rattle.hub_cli.specs.declared.words.Query.TheVariants.{About, Reach, Import, Plan, RoundsAlone, Mend}
 use Rattle.hub_cli.specs.declared.words.Question.{Question}
 use Rattle.hub_cli.specs.declared.words.Question.TheVariants.{CheckWithState, Run, RunByRounds, RunInOrder}
 use Rattle.hub_cli.specs.declared.words.Question.TheVariants.{Check, Certify, Verify}
@@ -99,6 +99,10 @@ reading_app name = with_hosts (with_unison (set_app name))
 abbrev pub clashes_app : App
 clashes_app = with_rule (reading_app (codes "clashes")) (flag (codes "dot"))
 
+-- `rounds`, which may also have `--alone`
+abbrev pub rounds_app : App
+rounds_app = with_rule (reading_app (codes "rounds")) (flag (codes "alone"))
+
 -- `mend`, which may also have `--bundle`
 abbrev pub mend_app : App
 mend_app = with_rule (reading_app (codes "mend")) (flag (codes "bundle"))
@@ -131,7 +135,7 @@ about_app =
     with_subcommand (with_subcommand (with_subcommand (with_subcommand (with_subcommand checker_app
     clashes_app.top)
     mend_app.top)
-    (reading_app (codes "rounds")).top)
+    rounds_app.top)
     (unison_app (codes "plan")).top)
     (unison_app (codes "import")).top
 
@@ -140,13 +144,15 @@ unfoldable pub hubsync_app : App
 hubsync_app = with_subcommand (with_subcommand about_app reach_app.top) run_app.top
 
 -- what is asked for: something about the set of the profiles and rules, whether a profile, so
--- read, reaches a path, a bundle of the profiles' readings for Unison, a plan of Unison's runs, or
+-- read, reaches a path, a bundle of the profiles' readings for Unison, a plan of Unison's runs,
+-- rounds of those of the profiles that can be read for it, beside which the others run alone, or
 -- lines that make the set of the profiles, so read, and rules safe, as they are or in the bundle
 pub data Request : Type 0 where
   about : Question → Request
   reach : Reading → Text → Text → Request
   imported : Request
   planned : Request
+  rounds_alone : Request
   mended : Reading → Bool → Request
 
 abbrev pub request_of : Query → Request
@@ -154,6 +160,7 @@ request_of (About question) = about question
 request_of (Reach reading profile path) = reach reading profile.now path.now
 request_of Import = imported
 request_of Plan = planned
+request_of RoundsAlone = rounds_alone
 request_of (Mend reading as_bundle) = mended reading as_bundle
 
 -- how a question about the set wants the profiles to be read: runs and certificates are always of
@@ -176,6 +183,7 @@ reading_for (about question) = reading_of question
 reading_for (reach reading profile path) = reading
 reading_for imported = Unison
 reading_for planned = Unison
+reading_for rounds_alone = Unison
 reading_for (mended reading as_bundle) = reading
 
 -- the operands PROFILE and PATH, if both are there
@@ -227,6 +235,12 @@ abbrev pub clashes_request : Bool → Reading → Request
 clashes_request as_graph reading =
     if as_graph then about (Graph reading) else about (Clashes reading)
 
+-- rounds of all profiles, or only for Unison those of the profiles that can be read
+abbrev pub rounds_request : Bool → Reading → Option Request
+rounds_request false reading = Some (about (Rounds reading))
+rounds_request true Plain = None
+rounds_request true Unison = Some rounds_alone
+
 -- lines that make the set safe, as they are or in the bundle
 abbrev pub mend_request : List Row → Request
 mend_request rows = mended (reading_in rows) (is_set (codes "bundle") rows)
@@ -249,7 +263,8 @@ about_named name rows =
     else (if bytes_eq name (codes "clashes")
     then Some (clashes_request (is_set (codes "dot") rows) (reading_in rows))
     else (if bytes_eq name (codes "mend") then Some (mend_request rows)
-    else (if bytes_eq name (codes "rounds") then Some (about (Rounds (reading_in rows)))
+    else (if bytes_eq name (codes "rounds")
+    then rounds_request (is_set (codes "alone") rows) (reading_in rows)
     else (if bytes_eq name (codes "import") then Some imported
     else (if bytes_eq name (codes "plan") then Some planned
     else (if bytes_eq name (codes "run") then run_by rows else None))))))))

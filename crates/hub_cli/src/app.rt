@@ -7,7 +7,7 @@ ghost use Rattle.clap.specs.Words.{app_of, new_app, rule_of, with_rule};
 ghost use Rattle.clap.specs.declared.builder.command.Command.TheViews.{out-Command as fields_of};
 ghost use Rattle.hub_cli.specs.Words as words;
 ghost use Rattle.hub_cli.specs.Words.{about_app, checker_app, clashes_app, hubsync_app, mend_app, reach_app, reading_app};
-ghost use Rattle.hub_cli.specs.Words.{IsCommand, run_app, set_app, top_app, unison_app, with_app};
+ghost use Rattle.hub_cli.specs.Words.{IsCommand, rounds_app, run_app, set_app, top_app, unison_app, with_app};
 
 use crate::help::{
     CERTIFY, CHECK, CLASHES, HUBSYNC, Help, IMPORT, LONG, MEND, PLAN, REACH, ROUNDS, RUN, VERIFY,
@@ -227,6 +227,15 @@ fn clashes_command<'a>(alloc: Global) -> Result<Box<Command<'a>>, AllocError>
     with_argument(alloc, command, flag(alloc, "dot", dot))
 }
 
+/// The command `rounds`.
+fn rounds_command<'a>(alloc: Global) -> Result<Box<Command<'a>>, AllocError>
+    ensures { IfOk result (λ c. IsCommand rounds_app c.value) }
+{
+    let command = reading_command(alloc, "rounds", ROUNDS)?;
+    let alone = "For Unison, let each profile that hubsync can't read run alone";
+    with_argument(alloc, command, flag(alloc, "alone", alone))
+}
+
 /// The command `mend`.
 fn mend_command<'a>(alloc: Global) -> Result<Box<Command<'a>>, AllocError>
     ensures { IfOk result (λ c. IsCommand mend_app c.value) }
@@ -342,7 +351,7 @@ fn about_command<'a>(alloc: Global) -> Result<Box<Command<'a>>, AllocError>
     let top = checker_command(alloc)?;
     let top = with_command(alloc, top, clashes_command(alloc)?)?;
     let top = with_command(alloc, top, mend_command(alloc)?)?;
-    let top = with_reading(alloc, top, "rounds", ROUNDS)?;
+    let top = with_command(alloc, top, rounds_command(alloc)?)?;
     let top = with_unison_command(alloc, top, "plan", PLAN)?;
     with_unison_command(alloc, top, "import", IMPORT)
 }

@@ -62,7 +62,7 @@ pub(crate) const MEND: Help = Help {
 pub(crate) const ROUNDS: Help = Help {
     about: "Cuts the profiles into rounds: those of a round may run at the same time",
     usage: "hubsync rounds < BUNDLE\n       hubsync rounds [OPTIONS] FILE.prf..\n       \
-        hubsync rounds --unison [OPTIONS] FOLDER",
+        hubsync rounds --unison [--alone] [OPTIONS] FOLDER",
     example: "Example: hubsync rounds docs.prf photos.prf",
 };
 
@@ -143,6 +143,13 @@ decide, with a path that shows it.
   breach 0 lists            a profile that may break rule 0: it is in no round
   too large 0 lists         the same, if whether it may wasn't found out
 
+'rounds --unison --alone' makes rounds of the profiles that hubsync can read. A
+profile that it can't read has these lines below them:
+
+  alone photos              no other may run beside it
+  why line 8: ..            the first line that hubsync has no answer for
+  unchecked photos          if there are rules: it may break any of them
+
 If the jobs are run, these lines stand below 'safe', for the profiles in their
 order, and then the new state:
 
@@ -186,7 +193,8 @@ lines. They only take away: each profile reaches and writes no more than before.
 With '--unison', 'check', 'clashes', 'mend' and 'rounds' follow the lines
 'include' and 'source' of the files, as 'import' and 'plan' do, and an operand
 may be a folder, as ~/.unison: its files
-'*.prf' with roots are the profiles, but those that another one includes.
+'*.prf' with roots are the profiles, but those that another one includes. An
+operand 'NAME=FOLDER' has the profiles of the machine NAME, named 'NAME=docs'.
 '--hosts' names a file of lines 'HOST PATH', by which a path stands for the / of
 a host in roots as ssh://HOST//srv. '--verbose' lists on standard error each
 line that doesn't count, and each that is refused.
@@ -200,7 +208,8 @@ such readings as a bundle, as for 'certify'.
 
 Exit status:
   0  safe and no job stopped, verified, certificates, reached or not reached;
-     rounds, if each profile is in one and nothing was too large to decide;
+     rounds, if each profile is in one and nothing was too large to decide, or
+     runs alone and there are no rules;
      a plan, if no profile is refused
   1  the profiles may not run at the same time, or may break a rule, or that
      they are safe was not shown; a profile in no round, or one that a plan

@@ -96,6 +96,8 @@ pub enum Query<'a> {
     Import,
     /// A plan: which profiles Unison may run at the same time.
     Plan,
+    /// Rounds of the profiles that can be read for Unison. The others run alone.
+    RoundsAlone,
     /// Lines that make the set safe.
     Mend {
         /// How the profiles are to be read.
@@ -113,7 +115,7 @@ impl<'a> Query<'a> {
         match *self {
             Query::About(question) => question.reading(),
             Query::Reach { reading, .. } | Query::Mend { reading, .. } => reading,
-            Query::Import | Query::Plan => Reading::Unison,
+            Query::Import | Query::Plan | Query::RoundsAlone => Reading::Unison,
         }
     }
 }
@@ -122,7 +124,8 @@ impl<'a> Query<'a> {
 ///
 /// `check`, `certify`, `verify`, `clashes` and `rounds` ask about the set. Without a command the words ask for the check, and
 /// for a run of the jobs if the bundle has a state. With `--dot`, `clashes` asks for a graph. `mend` asks for lines that make
-/// the set safe, and with `--bundle` for the bundle with these lines.
+/// the set safe, and with `--bundle` for the bundle with these lines. With `--unison` and `--alone`, `rounds` asks for rounds of the
+/// profiles that can be read.
 /// `run` asks for a run, with `--rounds` for one by rounds, and with `--in-order` for one of any set in its order. It can't have both.
 /// `--workers N` gives the number of workers, from 0 to 255, and without it there are [`DEFAULT_WORKERS`].
 ///
@@ -223,8 +226,8 @@ fn is_plain_command(word: &str) -> bool {
     word == "run" || word == "certify" || word == "verify" || word.as_bytes().starts_with(b"-")
 }
 
-/// The error for words that `clap` takes and that ask for nothing: an operand that isn't the file of a profile, a run that is to be
-/// made in two ways, or else an operand that is missing, as that of a profile beside other files.
+/// The error for words that `clap` takes and that ask for nothing: an operand that isn't the file of a profile, an option that is for
+/// Unison, a run that is to be made in two ways, or else an operand that is missing, as that of a profile beside other files.
 fn refusal<'a>(
     alloc: Global,
     hubsync: &mut Command<'a>,
@@ -238,6 +241,10 @@ fn refusal<'a>(
         None if has_stray_hosts(matches) => hubsync.error(
             ErrorKind::MissingRequiredArgument,
             "'--hosts' is for '--unison'",
+        ),
+        None if has_stray_alone(matches) => hubsync.error(
+            ErrorKind::MissingRequiredArgument,
+            "'--alone' is for '--unison'",
         ),
         None if is_run_in_two_ways(matches) => hubsync.error(
             ErrorKind::ArgumentConflict,
@@ -269,6 +276,16 @@ fn has_stray_hosts(matches: &ArgMatches<'_>) -> bool {
     }
 }
 
+/// Returns whether rounds of profiles that can be read are asked for, and not for Unison.
+fn has_stray_alone(matches: &ArgMatches<'_>) -> bool {
+    match matches.subcommand() {
+        Some((name, found)) => name == "rounds"
+            && is_set(found, "alone")
+            && !is_set(found, "unison"),
+        None => false,
+    }
+}
+
 /// Returns whether a run is to be made by rounds and in order.
 fn is_run_in_two_ways(matches: &ArgMatches<'_>) -> bool {
     match matches.subcommand() {
@@ -280,7 +297,7 @@ fn is_run_in_two_ways(matches: &ArgMatches<'_>) -> bool {
 }
 
 /// What was asked for, by the matches. A `None` is an unknown command, one without its operands, one with an operand that
-/// isn't the file of a profile, one with files but none of a profile, or a run in two ways.
+/// isn't the file of a profile, one with files but none of a profile, a run in two ways, or `--alone` without `--unison`.
 fn asked_in<'a>(matches: &ArgMatches<'a>) -> Option<Query<'a>>
     ensures { option_map request_of result ≡ request_in (subcommand_rows_of matches.now) }
 {
@@ -406,7 +423,7 @@ fn about<'a>(name: &str, found: &ArgMatches<'_>) -> Option<Query<'a>>
         return Some(mend(found));
     }
     if name == "rounds" {
-        return Some(Query::About(Question::Rounds(reading_in(found))));
+        return rounds(is_set(found, "alone"), reading_in(found));
     }
     if name == "import" {
         return Some(Query::Import);
@@ -428,6 +445,17 @@ fn clashes<'a>(as_graph: bool, reading: Reading) -> Query<'a>
         Query::About(Question::Graph(reading))
     } else {
         Query::About(Question::Clashes(reading))
+    }
+}
+
+/// Rounds of all profiles, or only for Unison those of the profiles that can be read.
+fn rounds<'a>(alone: bool, reading: Reading) -> Option<Query<'a>>
+    ensures { option_map request_of result ≡ words.rounds_request alone reading }
+{
+    match (alone, reading) {
+        (false, _) => Some(Query::About(Question::Rounds(reading))),
+        (true, Reading::Unison) => Some(Query::RoundsAlone),
+        (true, Reading::Plain) => None,
     }
 }
 

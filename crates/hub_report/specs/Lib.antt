@@ -15,6 +15,7 @@ pub mod ReachAnswer
 pub mod Verdict
 pub mod ClashesAnswer
 pub mod Plan
+pub mod Alone
 pub mod PlanAnswer
 pub mod InUnison
 pub mod UnisonAnswer

@@ -69,6 +69,7 @@ status_of OutOfMemory = 2
 abbrev pub undecided_of : Report → List ℕ
 undecided_of (Clashes a) = clashes.undecided_of a
 undecided_of (InUnison a) = unison.undecided_of a
+undecided_of (Planned a) = plan.undecided_of a
 undecided_of _ = []
 
 -- Why the input wasn't read to its end, if the answer says so: a read failed, or there were too

@@ -3,3 +3,4 @@ pub mod Jobs
 pub mod Report
 pub mod Plan
 pub mod InUnison
+pub mod Alone

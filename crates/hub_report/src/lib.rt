@@ -11,6 +11,7 @@
 //!   is the one of a fault, and [`text_of_numbers`] is the text of rounds of numbers of profiles.
 //! - [`graph_of_clashes`] is the text of a [`Graph`] of profiles with their faults, for Graphviz.
 //! - [`plan_of`] is the [`Plan`] of Unison's runs for a program that runs it, by the [`Roster`] of an input's profiles.
+//! - [`lines_of_alone`] are the lines of the profiles that aren't read, beside which no other may run.
 //! - [`undecided_pairs`] are the lines for standard error: which two profiles were too large to decide.
 //! - [`Blocks`] is the text of an answer, in blocks. [`Told`] is what the answer tells, as a value for remarks on it.
 //!
@@ -36,7 +37,7 @@
 //! The contracts use the words of `specs/Report` (the text and the status of each answer; `specs/FaultyInput`, `ReachAnswer`,
 //! `Verdict`, `ClashesAnswer`, `UnisonAnswer`, `PlanAnswer` and `RunAnswer` have those of its cases), `specs/Blocks` (the bytes of a text in blocks),
 //! `specs/Jobs` (the lines of jobs), `specs/Rounds` (those of clashes and rounds), `specs/InUnison` (those of what clashes in Unison),
-//! `specs/Plan` (those of plans), `specs/RoundsRun` (the text of a run by
+//! `specs/Plan` (those of plans), `specs/Alone` (those of profiles that run alone), `specs/RoundsRun` (the text of a run by
 //! rounds), `specs/Graph` (that of a graph), `specs/Undecided` (the lines for standard error), `specs/Run` (the line of why jobs
 //! weren't run), `specs/Refusal` (the lines of refusals), `specs/Archive` (those of archives that are shared) and `specs/Faults` (the names of faults and their lines). When an answer
 //! is right is said in `hub_serve`.
@@ -53,6 +54,7 @@
 //! When an answer is right is said in `hub_serve`. What [`Told`] says is only tested. What `undecided_pairs` gives goes to standard error, which no contract sees.
 #![tactic(auto)]
 
+mod alone;
 mod archive;
 mod blocks;
 mod clashes_answer;
@@ -80,6 +82,7 @@ mod undecided;
 mod unison_answer;
 mod verdict;
 
+pub use alone::lines_of_alone;
 pub use archive::archive_line;
 pub use blocks::Blocks;
 pub use clashes_answer::ClashesAnswer;

@@ -40,7 +40,7 @@ pub enum Report<'a> {
     Imported(Vec<u8>),
     /// No bundle says what was read: it would need more lines or longer patterns than there may be.
     NotImported,
-    /// A plan of Unison's runs.
+    /// A plan of Unison's runs, or rounds beside which profiles run alone.
     Planned(PlanAnswer),
     /// What is answered about profiles as Unison may run them.
     InUnison(UnisonAnswer),
@@ -86,6 +86,7 @@ impl Report<'_> {
         match self {
             Report::Clashes(answer) => answer.undecided(),
             Report::InUnison(answer) => answer.undecided(),
+            Report::Planned(answer) => answer.undecided(),
             _ => "",
         }
     }

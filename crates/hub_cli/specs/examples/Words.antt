@@ -3,7 +3,7 @@ use Rattle.std.specs.Prelude.{⊤, ◌≡◌, List, [], ◌∷◌, Option, Some,
 use Rattle.clap.proofs.OnLiterals.{clap_on_literals}
 use Rattle.clap.specs.Words.{Text}
 use Rattle.hub_cli.specs.Words.{Names, Request, about, asked_of, files_of, hubsync_app, is_strict_of, no_names}
-use Rattle.hub_cli.specs.Words.{imported, mended, planned, reach}
+use Rattle.hub_cli.specs.Words.{imported, mended, planned, reach, rounds_alone}
 use Rattle.hub_cli.specs.declared.words.Question.TheVariants.{CheckWithState, Run, RunByRounds, RunInOrder}
 use Rattle.hub_cli.specs.declared.words.Question.TheVariants.{Check, Certify, Verify}
 use Rattle.hub_cli.specs.declared.words.Question.TheVariants.{Clashes, Graph, Rounds}
@@ -247,6 +247,22 @@ clashes_for_unison = refl
 rounds_for_unison : asked (codes "rounds" ∷ codes "--unison" ∷ []) ≡ Some (about (Rounds Unison))
 unfolding computed
 rounds_for_unison = refl
+
+rounds_beside_profiles_that_run_alone :
+    asked (codes "rounds" ∷ codes "--unison" ∷ codes "--alone" ∷ codes "dir" ∷ [])
+    ≡ Some rounds_alone
+unfolding computed
+rounds_beside_profiles_that_run_alone = refl
+
+plain_rounds_leave_no_profile_alone :
+    asked (codes "rounds" ∷ codes "--alone" ∷ codes "a.prf" ∷ []) ≡ None
+unfolding computed
+plain_rounds_leave_no_profile_alone = refl
+
+clashes_leave_no_profile_alone :
+    asked (codes "clashes" ∷ codes "--unison" ∷ codes "--alone" ∷ []) ≡ None
+unfolding computed
+clashes_leave_no_profile_alone = refl
 
 reach_for_unison :
     asked (codes "reach" ∷ codes "--unison" ∷ codes "p" ∷ codes "a" ∷ [])

@@ -26,7 +26,7 @@ abbrev lists : Parts
 lists = profile_of (codes "lists") (codes "srv/hub") (codes "srv/s4")
 
 -- docs and lists are read, and win between them isn't.
-abbrev roster : Roster
+abbrev pub roster : Roster
 roster = record {
   names = codes "docs" ∷ codes "win" ∷ codes "lists" ∷ [];
   numbers = 1 ∷ 3 ∷ [];

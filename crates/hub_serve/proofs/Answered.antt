@@ -7,12 +7,12 @@ use Rattle.std.proofs.lemmas.Option.{none-some, same_Some}
 use Rattle.std.proofs.lemmas.Bool.{false≢true}
 use Rattle.hub_cli.specs.declared.words.Question.TheVariants as ask
 use Rattle.hub_cli.specs.declared.words.Reading.{Reading}
-use Rattle.hub_cli.specs.Words.{Request, about, asked_of, imported, mended, reading_for}
+use Rattle.hub_cli.specs.Words.{Request, about, asked_of, imported, mended, reading_for, rounds_alone}
 use Rattle.hub_report.specs.declared.report.Report.{Report}
 use Rattle.hub_report.specs.declared.clashes_answer.ClashesAnswer.{ClashesAnswer}
 use Rattle.hub_report.specs.declared.clashes_answer.ClashesAnswer.TheVariants.{Lines, Graph, Cut}
 use Rattle.hub_report.specs.declared.plan_answer.PlanAnswer.{PlanAnswer}
-use Rattle.hub_report.specs.declared.plan_answer.PlanAnswer.TheVariants.{Made, Refused, BadRules}
+use Rattle.hub_report.specs.declared.plan_answer.PlanAnswer.TheVariants as plan
 use Rattle.hub_report.specs.declared.reach_answer.ReachAnswer.{ReachAnswer}
 use Rattle.hub_report.specs.declared.reach_answer.ReachAnswer.TheVariants.{Reached, NotReached, NoProfile, BadPath}
 use Rattle.hub_report.specs.declared.report.Report.TheVariants.{Reach, Clashes, Run, Planned, InUnison, Mended, OutOfMemory}
@@ -35,7 +35,7 @@ use Rattle.hub_serve.specs.Told.{Holds}
 use Rattle.hub_serve.specs.Serves.{ServesInFull, Answers, AnswersNothing, Begins, WritesText}
 use Rattle.hub_serve.specs.Mended.{asks_mend, is_mend}
 use Rattle.hub_serve.specs.Shown.{SpellsRounds, SpellsRoundsRun, TellsSafe}
-use Rattle.hub_serve.proofs.FirstOf.{rounds-in, safe-in}
+use Rattle.hub_serve.proofs.FirstOf.{OfRounds, rounds-alone-in, rounds-in, safe-in}
 use Rattle.hub_serve.specs.Shown.{ShowsImport, ShowsMend, TellsSafe, SpellsUnsafe, SpellsVerified}
 use Rattle.hub_serve.proofs.FirstLines.{only_safe, only_archive, only_clashes, only_graph, only_in_order, only_plan, only_rounds, only_verified, only_overlaps, only_breaches, only_reached, only_not_reached}
 use Rattle.hub_serve.proofs.Imports.{only_import}
@@ -85,8 +85,7 @@ module _ (request : Request) (remaining old new : Option (List ℕ)) (reads : Re
 
   rounds-written : (text : List ℕ) → is_mend request ≡ false → Answers request remaining old new reads write_failed status → remaining ≡ Some bytes → old ≡ Some before
       → new ≡ Some (before ++ (codes "rounds " ++ text))
-      → SpellsRounds (Some request) bytes (codes "rounds " ++ text) write_failed status
-      ⊎ SpellsRoundsRun (Some request) bytes (codes "rounds " ++ text) write_failed status
+      → OfRounds (Some request) bytes (codes "rounds " ++ text) write_failed status
   rounds-written text o a e f g =
       only_rounds request bytes a.report a.text text write_failed status o a.is_text (answer-written (codes "rounds " ++ text) a f g) (held a e)
 
@@ -177,9 +176,10 @@ clashes-le (Graph g) = decided-le g.safe
 clashes-le (Cut c) = decided-le c.decided
 
 plan-le : (a : PlanAnswer) → plans.status_of a ≤ 3
-plan-le (Made p) = decided-le p.is_whole
-plan-le (Refused line refusal) = omega arith
-plan-le (BadRules f) = omega arith
+plan-le (plan.Made p) = decided-le p.is_whole
+plan-le (plan.Cut c) = decided-le c.decided
+plan-le (plan.Refused line refusal) = omega arith
+plan-le (plan.BadRules f) = omega arith
 
 unison-le : (a : UnisonAnswer) → answers.status_of a ≤ 3
 unison-le unison.Safe = omega arith
@@ -222,6 +222,8 @@ serves-answer overlaps breaches request remaining old new reads write_failed sta
     breach = λ bytes text o w. breach-written request remaining old new reads write_failed status bytes w.before breaches text o a w.input w.kept w.written;
     rounds = λ reading bytes text is w.
         rounds-in (Some request) reading bytes _ write_failed status is (rounds bytes text (ap asks_mend is) w);
+    rounds_alone = λ bytes text is w.
+        rounds-alone-in (Some request) bytes _ write_failed status is (rounds bytes text (ap asks_mend is) w);
     in_order = λ bytes text o w. in_order-written request remaining old new reads write_failed status bytes w.before text o a w.input w.kept w.written;
     planned = λ bytes text o w. plan-written request remaining old new reads write_failed status bytes w.before text o a w.input w.kept w.written;
     imported = λ bytes text is w z. imported-written request remaining old new reads write_failed status bytes w.before text a is w.input w.kept w.written z;
@@ -241,8 +243,7 @@ serves-answer overlaps breaches request remaining old new reads write_failed sta
     safe bytes text o w = safe-written request remaining old new reads write_failed status bytes w.before text o a w.input w.kept w.written
 
     rounds : (bytes text : List ℕ) → asks_mend (Some request) ≡ false → Begins remaining old new (codes "rounds ") bytes text
-        → SpellsRounds (Some request) bytes (codes "rounds " ++ text) write_failed status
-        ⊎ SpellsRoundsRun (Some request) bytes (codes "rounds " ++ text) write_failed status
+        → OfRounds (Some request) bytes (codes "rounds " ++ text) write_failed status
     rounds bytes text o w = rounds-written request remaining old new reads write_failed status bytes w.before text o a w.input w.kept w.written
 
 -- The words ask for nothing.
@@ -258,6 +259,7 @@ serves-nothing remaining old new reads write_failed status a = record {
     overlap = λ bytes text o w. absurd (nothing-written old new status w.before _ 111 a refl w.kept w.written);
     breach = λ bytes text o w. absurd (nothing-written old new status w.before _ 98 a refl w.kept w.written);
     rounds = λ reading bytes text is w. absurd (none-some (about (ask.Rounds reading)) is);
+    rounds_alone = λ bytes text is w. absurd (none-some rounds_alone is);
     in_order = λ bytes text o w. absurd (nothing-written old new status w.before _ 105 a refl w.kept w.written);
     planned = λ bytes text o w. absurd (nothing-written old new status w.before _ 112 a refl w.kept w.written);
     imported = λ bytes text is w z. absurd (none-some imported is);

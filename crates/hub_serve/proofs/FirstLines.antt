@@ -49,11 +49,12 @@ use Rattle.hub_serve.specs.declared.task.Task.TheVariants as task
 use Rattle.hub_report.specs.declared.told.Refusal.{Refusal}
 use Rattle.hub_serve.specs.InUnison.{asked_in_unison}
 use Rattle.hub_serve.specs.Shown.{SpellsArchive}
-use Rattle.hub_serve.specs.Plans.{IsPlan, PlanHolds}
-use Rattle.hub_serve.specs.Shown.{IsWholeUnlessFailed, ListsAs, ShowsClashes, ShowsRounds, ShowsRoundsRun, SpellsUnsafeAs}
+use Rattle.hub_serve.specs.Plans.{CutsAlone, IsPlan, PlanHolds}
+use Rattle.hub_preferences.specs.Counted.{counted_bundle}
+use Rattle.hub_serve.specs.Shown.{IsWholeUnlessFailed, ListsAs, ShowsClashes, ShowsRounds, ShowsRoundsAlone, ShowsRoundsRun, SpellsUnsafeAs}
 use Rattle.hub_serve.specs.Told.{IsRefusedFor, IsTrueOf, Holds, SharesArchive, may_say_safe}
 use Rattle.hub_serve.specs.Shown.{SpellsRunInOrder}
-use Rattle.hub_serve.specs.Shown.{SpellsClashes, SpellsGraph, SpellsPlan, SpellsRounds, SpellsRoundsRun, TellsSafe, SpellsUnsafe, SpellsVerified}
+use Rattle.hub_serve.specs.Shown.{SpellsClashes, SpellsGraph, SpellsPlan, SpellsRounds, SpellsRoundsAlone, SpellsRoundsRun, TellsSafe, SpellsUnsafe, SpellsVerified}
 use Rattle.hub_serve.specs.Rounds.{BeginsAsClash, DrawsClashes, ListsClashes, WritesRounds}
 use Rattle.hub_serve.specs.Runs.{HasRunAs, IsBelow, IsPrevented}
 use Rattle.hub_serve.specs.Mended.{is_mend}
@@ -63,9 +64,10 @@ use Rattle.hub_serve.proofs.BundleStart.{bundle-start}
 use Rattle.hub_serve.proofs.AskedInUnison.{plain-asked}
 use Rattle.hub_serve.proofs.FirstInUnison.{unison-means, unplanned-means}
 use Rattle.hub_serve.proofs.Means.{AreClashes, Means}
-use Rattle.hub_serve.proofs.Placed.{plan-places}
+use Rattle.hub_serve.proofs.Placed.{each-once, plan-places}
 use Rattle.hub_serve.proofs.PlansInUnison.{plan-in_unison, plan-keeps}
-use Rattle.hub_serve.proofs.Planning.{unplanned-no_numbers}
+use Rattle.hub_serve.proofs.Planning.{unplannable-no_numbers}
+use Rattle.hub_serve.proofs.SafeTogether.{rounds-alone-safe}
 use Rattle.hub_serve.proofs.Asking.{asks, reading-for-task, unrefused}
 use Rattle.hub_serve.proofs.Refused.{BreachesShown, OverlapsShown, breach-refused, overlap-refused}
 use Rattle.hub_serve.proofs.RunInOrder.{in_order-shown, in_order-unrun, other-is-3, run_status, zero-finished}
@@ -244,7 +246,7 @@ run-means request bytes (Ran r) line l h =
 run-means request bytes (RanByRounds r) line l h =
     let t = h.told.told in
     let asked = asks request h.contents.state (task.RunByRounds t.workers t.state) (subst (AsksTask request h.contents.state) t.task_is h.told.asked) in
-    subst (λ ls. Means request bytes line (run_status r.finished) (start ls)) (sym l) (inr (record {
+    subst (λ ls. Means request bytes line (run_status r.finished) (start ls)) (sym l) (inr (inr (record {
       workers = t.workers;
       is_asked = ap Some asked.0;
       contents = h.contents;
@@ -255,7 +257,7 @@ run-means request bytes (RanByRounds r) line l h =
       was_run = t.run;
       text_is = l;
       status_is = refl;
-    }))
+    })))
 run-means request bytes (RanInOrder r) line l h =
     subst (λ t. Means request bytes line (run_status r.finished) (start t)) (sym l)
     (in_order-shown request bytes line h.contents h.told.to_do r l h.spelled h.told.asked h.told.told)
@@ -279,7 +281,7 @@ archive-means request bytes text refusal line l h =
     cc none
 
 -- of a plan,
-plan-means : (request : Request) (bytes : List ℕ) (a : PlanAnswer) (line : List ℕ) → line ≡ plans.text_of a → (request ≡ question.planned) × PlanHolds bytes a
+plan-means : (request : Request) (bytes : List ℕ) (a : PlanAnswer) (line : List ℕ) → line ≡ plans.text_of a → PlanHolds request bytes a
     → Means request bytes line (plans.status_of a) (start line)
 plan-means request bytes (Made p) line l h =
     let held : IsPlan bytes line p.is_whole = subst (λ t. IsPlan bytes t p.is_whole) (sym l) h.1 in
@@ -292,10 +294,20 @@ plan-means request bytes (Made p) line l h =
       placed = plan-places bytes line p.is_whole held;
       status_is = refl;
     })
+plan-means request bytes (planned.Cut c) line l h =
+    let held : CutsAlone bytes line c.decided = subst (λ t. CutsAlone bytes t c.decided) (sym l) h.1 in
+    subst (λ t. Means request bytes line (cond c.decided 0 1) (start t)) (sym held.text_is) (inr (inl (record {
+      is_asked = ap Some h.0;
+      well = c.decided;
+      cut = held;
+      safe = rounds-alone-safe bytes line c.decided held;
+      once = each-once (counted_bundle bytes) held.own held.takes;
+      status_is = refl;
+    })))
 plan-means request bytes (planned.Refused text refusal) line l h =
     let u = h.1 in
     subst (λ t. Means request bytes line 1 (start t)) (sym (l ∙ u.line_is))
-    (unplanned-means request bytes line _ u.reason (unplanned-no_numbers _ _ u.reason u.refused))
+    (unplanned-means request bytes line _ u.reason (unplannable-no_numbers request u.own u.reason u.refused))
 plan-means request bytes (BadRules f) line l h = subst (λ t. Means request bytes line 2 (start t)) (sym l) tt
 
 -- and of the start of the text of every answer.
@@ -342,17 +354,20 @@ only_safe request bytes r line s failed status other l wrote h =
       };
     }
 
--- only that of rounds and of a run by rounds with `rou`,
+-- only those of rounds and that of a run by rounds with `rou`,
 pub only_rounds : (request : Request) (bytes : List ℕ) (r : Report) (line s : List ℕ) (failed : Bool) (status : ℕ) → is_mend request ≡ false → line ≡ text_of r
     → IsWholeUnlessFailed line (status_of r) failed (codes "rounds " ++ s) status → Holds request bytes r
-    → SpellsRounds (Some request) bytes (codes "rounds " ++ s) failed status ⊎ SpellsRoundsRun (Some request) bytes (codes "rounds " ++ s) failed status
+    → SpellsRounds (Some request) bytes (codes "rounds " ++ s) failed status
+    ⊎ (SpellsRoundsAlone (Some request) bytes (codes "rounds " ++ s) failed status ⊎ SpellsRoundsRun (Some request) bytes (codes "rounds " ++ s) failed status)
 only_rounds request bytes r line s failed status other l wrote h =
     go (means request bytes r line RoundsStart other l (ap start (begins-taken (codes "rounds ") line s wrote.written (sym wrote.text_is)).whole) h)
   where
-    go : ShowsRounds (Some request) bytes line (status_of r) ⊎ ShowsRoundsRun (Some request) bytes line (status_of r)
-        → SpellsRounds (Some request) bytes (codes "rounds " ++ s) failed status ⊎ SpellsRoundsRun (Some request) bytes (codes "rounds " ++ s) failed status
+    go : ShowsRounds (Some request) bytes line (status_of r) ⊎ (ShowsRoundsAlone (Some request) bytes line (status_of r) ⊎ ShowsRoundsRun (Some request) bytes line (status_of r))
+        → SpellsRounds (Some request) bytes (codes "rounds " ++ s) failed status
+        ⊎ (SpellsRoundsAlone (Some request) bytes (codes "rounds " ++ s) failed status ⊎ SpellsRoundsRun (Some request) bytes (codes "rounds " ++ s) failed status)
     go (inl is) = inl (record { full = line; full_status = status_of r; is_so = is; told = wrote })
-    go (inr is) = inr (record { full = line; full_status = status_of r; is_so = is; told = wrote })
+    go (inr (inl is)) = inr (inl (record { full = line; full_status = status_of r; is_so = is; told = wrote }))
+    go (inr (inr is)) = inr (inr (record { full = line; full_status = status_of r; is_so = is; told = wrote }))
 
 -- only that of a graph with a g,
 pub only_graph : (request : Request) (bytes : List ℕ) (r : Report) (line s : List ℕ) (failed : Bool) (status : ℕ) → is_mend request ≡ false → line ≡ text_of r

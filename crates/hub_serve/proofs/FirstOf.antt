@@ -12,7 +12,7 @@ use Rattle.hub_cli.specs.Words as question
 use Rattle.hub_serve.specs.declared.task.Task.{Task}
 use Rattle.hub_serve.specs.declared.task.Task.TheVariants as task
 use Rattle.hub_serve.specs.Runs.{IsBelow}
-use Rattle.hub_serve.specs.Shown.{FollowsSafe, SpellsRounds, SpellsRoundsRun, SpellsSafe, SpellsSafeAs, TellsSafe, may_be_safe}
+use Rattle.hub_serve.specs.Shown.{FollowsSafe, SpellsRounds, SpellsRoundsAlone, SpellsRoundsRun, SpellsSafe, SpellsSafeAs, TellsSafe, may_be_safe}
 use Rattle.hub_serve.specs.Task.{task_of}
 
 -- Nothing follows `safe` for a question that may not be answered so.
@@ -50,11 +50,30 @@ safe-so asked bytes text status (inr f) = record {
 pub safe-in : (asked : Option Request) (bytes text : List ℕ) (failed : Bool) (status : ℕ) → TellsSafe asked bytes text failed status → SpellsSafe asked bytes
 safe-in asked bytes text failed status told = safe-so asked bytes told.full told.full_status told.is_so
 
--- Who asks for rounds doesn't ask for a run by rounds.
+-- Who asks for rounds doesn't ask for those beside which profiles run alone, nor for a run by rounds.
+rounds-no-alone : (reading : Reading) → Some (question.about (ask.Rounds reading)) ≡ Some question.rounds_alone → ⊥
+rounds-no-alone reading e = cc
+
+rounds-no-run : (reading : Reading) (n : ℕ) → Some (question.about (ask.Rounds reading)) ≡ Some (question.about (ask.RunByRounds n)) → ⊥
+rounds-no-run reading n e = cc
+
+alone-no-run : (n : ℕ) → Some question.rounds_alone ≡ Some (question.about (ask.RunByRounds n)) → ⊥
+alone-no-run n e = cc
+
+abbrev pub OfRounds : Option Request → List ℕ → List ℕ → Bool → ℕ → Type 0
+OfRounds asked bytes text failed status =
+    SpellsRounds asked bytes text failed status
+    ⊎ (SpellsRoundsAlone asked bytes text failed status ⊎ SpellsRoundsRun asked bytes text failed status)
+
 pub rounds-in : (asked : Option Request) (reading : Reading) (bytes text : List ℕ) (failed : Bool) (status : ℕ) → asked ≡ Some (question.about (ask.Rounds reading))
-    → SpellsRounds asked bytes text failed status ⊎ SpellsRoundsRun asked bytes text failed status → SpellsRounds asked bytes text failed status
+    → OfRounds asked bytes text failed status → SpellsRounds asked bytes text failed status
 rounds-in asked reading bytes text failed status is (inl cut) = cut
-rounds-in asked reading bytes text failed status is (inr run) = absurd (other (sym is ∙ run.is_so.is_asked))
-  where
-    other : Some (question.about (ask.Rounds reading)) ≡ Some (question.about (ask.RunByRounds run.is_so.workers)) → ⊥
-    other e = cc
+rounds-in asked reading bytes text failed status is (inr (inl alone)) = absurd (rounds-no-alone reading (sym is ∙ alone.is_so.is_asked))
+rounds-in asked reading bytes text failed status is (inr (inr run)) = absurd (rounds-no-run reading run.is_so.workers (sym is ∙ run.is_so.is_asked))
+
+-- And the other way round.
+pub rounds-alone-in : (asked : Option Request) (bytes text : List ℕ) (failed : Bool) (status : ℕ) → asked ≡ Some question.rounds_alone
+    → OfRounds asked bytes text failed status → SpellsRoundsAlone asked bytes text failed status
+rounds-alone-in asked bytes text failed status is (inl cut) = absurd (rounds-no-alone cut.is_so.reading (sym cut.is_so.is_asked ∙ is))
+rounds-alone-in asked bytes text failed status is (inr (inl alone)) = alone
+rounds-alone-in asked bytes text failed status is (inr (inr run)) = absurd (alone-no-run run.is_so.workers (sym is ∙ run.is_so.is_asked))

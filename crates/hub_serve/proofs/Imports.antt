@@ -8,7 +8,7 @@ use Rattle.hub_bundle.specs.Sections.{Spells}
 use Rattle.hub_cli.specs.declared.words.Question.{Question}
 use Rattle.hub_cli.specs.declared.words.Reading.{Reading}
 use Rattle.hub_cli.specs.declared.words.Reading.TheVariants.{Unison}
-use Rattle.hub_cli.specs.Words.{Request, about, imported, mended, planned, reach, reading_for}
+use Rattle.hub_cli.specs.Words.{Request, about, imported, mended, planned, reach, reading_for, rounds_alone}
 use Rattle.hub_import.specs.Imported.{contents_of}
 use Rattle.hub_profile.specs.Parts.{Parts}
 use Rattle.hub_report.specs.declared.report.Report.{Report}
@@ -16,6 +16,8 @@ use Rattle.hub_report.specs.declared.report.Report.TheVariants as answer
 use Rattle.hub_report.specs.declared.reach_answer.ReachAnswer.{ReachAnswer}
 use Rattle.hub_report.specs.declared.reach_answer.ReachAnswer.TheVariants.{Reached, NotReached, NoProfile, BadPath}
 use Rattle.hub_report.specs.Report.{status_of, text_of}
+use Rattle.hub_serve.specs.Plans.{reads_around_faults}
+use Rattle.hub_serve.proofs.Planning.{around-faults}
 use Rattle.hub_serve.specs.InUnison.{asked_in_unison}
 use Rattle.hub_serve.proofs.AskedInUnison.{unasked}
 use Rattle.hub_serve.specs.declared.task.Task.{Task}
@@ -30,6 +32,7 @@ is_import (about q) = false
 is_import (reach reading profile path) = false
 is_import imported = true
 is_import planned = false
+is_import rounds_alone = false
 is_import (mended reading as_bundle) = false
 
 other : (request r : Request) → request ≡ imported → request ≡ r → is_import r ≡ false → ⊥
@@ -69,7 +72,7 @@ shown request bytes text (answer.Imported t) is l z h =
       in_unison = λ safe apart. apart-in_unison bytes h.contents spelled safe apart;
     }
 shown request bytes text answer.NotImported is l z h = absurd (omega (arith, z))
-shown request bytes text (answer.Planned a) is l z h = absurd (other request _ is h.0 refl)
+shown request bytes text (answer.Planned a) is l z h = absurd (false≢true (sym (ap reads_around_faults is) ∙ around-faults request bytes a h))
 shown request bytes text (answer.InUnison a) is l z h = absurd (unasked request bytes a (ap asked_in_unison is) h)
 shown request bytes text (answer.Mended m) is l z h = absurd (other request _ is h.asked refl)
 shown request bytes text answer.NotMended is l z h = absurd (omega (arith, z))

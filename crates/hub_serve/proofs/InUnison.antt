@@ -39,9 +39,8 @@ use Rattle.hub_report.specs.Refusal.{joined, name_at, name_text, text_of_root}
 use Rattle.hub_serve.specs.Rounds.{AreLinesAs}
 use Rattle.hub_serve.specs.Shown.{ShowsArchive}
 use Rattle.hub_unison.specs.Shared.{ShareNoArchive, is_shared, shared_pairs}
-use Rattle.hub_serve.specs.Unison.{SpellsAs, SpellsSafeInUnison, SpellsUnreachedInUnison, archives_as, first_written, written_in}
+use Rattle.hub_serve.specs.Unison.{SpellsAs, SpellsSafeInUnison, SpellsUnreachedInUnison, first_written, written_in}
 use Rattle.hub_serve.proofs.SharedPairs.{all-shared, behind-others, first-shared, no-archive}
-use Rattle.hub_unison.specs.laws.Shared.{none-shared}
 
 is_unison : Reading → Bool
 is_unison Plain = false
@@ -64,11 +63,6 @@ apart-in_unison bytes c h safe apart =
       safe = read-safe Ws own.rules c.profiles (map forbidden_by c.rules) read safe apart;
       kept = read-keeps Ws own.rules c.profiles (map forbidden_by c.rules) (ap (map forbidden_by) rules) read safe;
     }
-
-pub safe-in_unison : (reading : Reading) (bytes : List ℕ) (c : BundleContents) → SpellsAs reading bytes c → IsSafeSet (members c) → archives_as reading c.profiles ≡ []
-    → reading ≡ Unison → SpellsSafeInUnison bytes
-safe-in_unison Plain bytes c h safe none is = absurd (plain≢unison is)
-safe-in_unison Unison bytes c h safe none is = apart-in_unison bytes c h safe (none-shared c.profiles none)
 
 module _ (R : Written → Parts → Type 0) where
   -- Each of the profiles is so to the written one at its place.

@@ -7,6 +7,7 @@ pub mod WrittenSections
 pub mod InUnison
 pub mod PlansInUnison
 pub mod Planning
+pub mod RunAlone
 pub mod UnisonFound
 pub mod UnisonTold
 pub mod Placed
@@ -27,3 +28,4 @@ pub mod BundleStart
 pub mod Imports
 pub mod Mending
 pub mod MendAnswers
+pub mod MendInUnison

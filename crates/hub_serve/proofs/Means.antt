@@ -8,7 +8,7 @@ use Rattle.hub_report.specs.laws.Starts.{RoundsStart, GraphStart, ReachedStart, 
 use Rattle.hub_cli.specs.declared.words.Question.TheVariants as ask
 use Rattle.hub_cli.specs.declared.words.Reading.{Reading}
 use Rattle.hub_cli.specs.Words.{Request, about}
-use Rattle.hub_serve.specs.Shown.{FollowsSafe, ShowsArchive, ShowsClashes, ShowsGraph, ShowsPlan, ShowsRounds, ShowsRoundsRun, ShowsRunInOrder, SpellsUnsafe, SpellsVerified}
+use Rattle.hub_serve.specs.Shown.{FollowsSafe, ShowsArchive, ShowsClashes, ShowsGraph, ShowsPlan, ShowsRounds, ShowsRoundsAlone, ShowsRoundsRun, ShowsRunInOrder, SpellsUnsafe, SpellsVerified}
 use Rattle.hub_serve.specs.Told.{IsTrueOf}
 use Rattle.hub_serve.proofs.Refused.{BreachesShown, OverlapsShown}
 
@@ -24,7 +24,7 @@ Means request bytes line status OverlapStart = (OverlapsShown → SpellsUnsafe (
 Means request bytes line status BreachStart = (BreachesShown → SpellsUnsafe (Some request) bytes) × AreClashes request bytes line status
 Means request bytes line status TooLargeStart = AreClashes request bytes line status
 Means request bytes line status NestedStart = AreClashes request bytes line status
-Means request bytes line status RoundsStart = ShowsRounds (Some request) bytes line status ⊎ ShowsRoundsRun (Some request) bytes line status
+Means request bytes line status RoundsStart = ShowsRounds (Some request) bytes line status ⊎ (ShowsRoundsAlone (Some request) bytes line status ⊎ ShowsRoundsRun (Some request) bytes line status)
 Means request bytes line status GraphStart = ShowsGraph (Some request) bytes line status
 Means request bytes line status ReachedStart = IsTrueOf request bytes (answer.Reach Reached)
 Means request bytes line status NotReachedStart = IsTrueOf request bytes (answer.Reach NotReached)

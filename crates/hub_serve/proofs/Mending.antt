@@ -2,10 +2,10 @@
 use Rattle.std.proofs.Common.{◌≡◌, ◌∙◌, ◌≤◌, ℕ, Bool, true, false, cond, List, Option, refl, sym, ap, subst, arith}
 use Rattle.std.proofs.lemmas.Bool.{false≢true}
 use Rattle.hub_state.specs.State.{State}
-use Rattle.hub_bundle.specs.declared.sections.BundleContents.{BundleContents}
 use Rattle.hub_cli.specs.declared.words.Reading.{Reading}
+use Rattle.hub_cli.specs.declared.words.Reading.TheVariants.{Unison}
 use Rattle.hub_cli.specs.Words.{Request, mended}
-use Rattle.hub_mend.specs.Additions.{line_count, mended_text}
+use Rattle.hub_mend.specs.Additions.{mended_text}
 use Rattle.hub_profile.specs.Parts.{Parts}
 use Rattle.hub_report.specs.declared.mended.Mended.{Mended}
 use Rattle.hub_report.specs.declared.report.Report.{Report}
@@ -13,14 +13,16 @@ use Rattle.hub_report.specs.declared.report.Report.TheVariants as answer
 use Rattle.hub_report.specs.declared.reach_answer.ReachAnswer.{ReachAnswer}
 use Rattle.hub_report.specs.declared.reach_answer.ReachAnswer.TheVariants.{Reached, NotReached, NoProfile, BadPath}
 use Rattle.hub_report.specs.Report.{status_of, text_of}
+use Rattle.hub_serve.specs.Plans.{reads_around_faults}
+use Rattle.hub_serve.proofs.Planning.{around-faults}
 use Rattle.hub_serve.specs.InUnison.{asked_in_unison}
 use Rattle.hub_serve.proofs.AskedInUnison.{unasked}
 use Rattle.hub_serve.specs.declared.task.Task.{Task}
-use Rattle.hub_serve.specs.Mended.{Mends, is_mend, mend_text}
+use Rattle.hub_serve.specs.Mended.{is_mend, mend_text}
 use Rattle.hub_serve.specs.Shown.{IsWholeUnlessFailed, ShowsMend}
-use Rattle.hub_serve.specs.Told.{Holds, IsMended, IsToldOfReach, SaysOf}
+use Rattle.hub_serve.specs.Told.{Holds, IsMended, IsMendedAs, IsToldOfReach}
 use Rattle.hub_serve.specs.Task.{AsksTask}
-use Rattle.hub_serve.proofs.InUnison.{safe-in_unison}
+use Rattle.hub_serve.proofs.SafeTogether.{nothing-safe}
 
 module _ (reading : Reading) (as_bundle : Bool) where
   other : (request r : Request) → request ≡ mended reading as_bundle → request ≡ r → is_mend r ≡ false → ⊥
@@ -48,21 +50,19 @@ module _ (reading : Reading) (as_bundle : Bool) where
       → IsMended request bytes m → ShowsMend reading as_bundle bytes text status
   found request bytes text m status is l e h =
       let asks : mended h.reading h.as_bundle ≡ mended reading as_bundle = sym h.asked ∙ is in
-      let mends : Mends reading bytes h.pieces h.new = subst (λ d. Mends d bytes h.pieces h.new) (same-reading h.reading h.as_bundle asks) h.mends in
-      let said : SaysOf reading m.safe h.new (line_count h.pieces) h.line =
-      subst (λ d. SaysOf d m.safe h.new (line_count h.pieces) h.line) (same-reading h.reading h.as_bundle asks) h.said in
+      let said : IsMendedAs reading bytes h.pieces m.safe h.line =
+      subst (λ d. IsMendedAs d bytes h.pieces m.safe h.line) (same-reading h.reading h.as_bundle asks) h.mended in
       record {
         pieces = h.pieces;
-        new = h.new;
-        mends = mends;
         safe = m.safe;
         line = h.line;
-        said = said;
+        mended = said;
         text_is = l ∙ h.text_is ∙ ap (λ b. mend_text b h.pieces h.line) (same-form h.reading h.as_bundle asks);
         status_is = e;
         in_unison = λ u s.
-            let safe = subst (λ b. SaysOf reading b h.new (line_count h.pieces) h.line) s said in
-            safe-in_unison reading (mended_text h.pieces) h.new mends.with_lines safe.0 safe.1 u;
+            let in_unison : IsMendedAs Unison bytes h.pieces m.safe h.line = subst (λ d. IsMendedAs d bytes h.pieces m.safe h.line) u said in
+            let safe : IsMendedAs Unison bytes h.pieces true h.line = subst (λ b. IsMendedAs Unison bytes h.pieces b h.line) s in_unison in
+            nothing-safe (mended_text h.pieces) safe.1.0;
       }
 
   shown : (request : Request) (bytes text : List ℕ) (r : Report) (status : ℕ) → request ≡ mended reading as_bundle → text ≡ text_of r → status ≡ status_of r → status ≤ 1
@@ -77,7 +77,7 @@ module _ (reading : Reading) (as_bundle : Bool) where
   shown request bytes text (answer.Run a) status is l e z h = absurd (no-task request _ _ is h.told.asked)
   shown request bytes text (answer.Imported t) status is l e z h = absurd (other request _ is h.told.asked refl)
   shown request bytes text answer.NotImported status is l e z h = absurd (omega (arith, e, z))
-  shown request bytes text (answer.Planned a) status is l e z h = absurd (other request _ is h.0 refl)
+  shown request bytes text (answer.Planned a) status is l e z h = absurd (false≢true (sym (ap reads_around_faults is) ∙ around-faults request bytes a h))
   shown request bytes text (answer.InUnison a) status is l e z h = absurd (unasked request bytes a (ap asked_in_unison is) h)
   shown request bytes text (answer.Mended m) status is l e z h = found request bytes text m status is l e h
   shown request bytes text answer.NotMended status is l e z h = absurd (omega (arith, e, z))

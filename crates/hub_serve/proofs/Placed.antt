@@ -14,11 +14,12 @@ use Rattle.hub_bundle.specs.Bundle.{SectionValue}
 use Rattle.hub_bundle.specs.declared.bundle.Heading.{Heading}
 use Rattle.hub_bundle.specs.declared.bundle.Heading.TheVariants as heading
 use Rattle.hub_bundle.specs.declared.sections.SectionFault.{SectionFault}
+use Rattle.hub_preferences.specs.Counted.{counted_bundle}
 use Rattle.hub_report.specs.Plan.{is_refused, order_of, read_order, run_alone, unread_numbers, unread_order}
 use Rattle.hub_report.specs.declared.plan.Roster.{Roster}
 use Rattle.hub_report.specs.declared.plan.Unread.{Unread}
 use Rattle.hub_serve.proofs.WrittenSections.{taken-ok, takes-on}
-use Rattle.hub_serve.specs.Plans.{IsPlan, PlacesEach, names_with, no_profiles, read_refused, refused_of, take_section, take_under, taking, times_in, unread_refused, with_profile, with_rules}
+use Rattle.hub_serve.specs.Plans.{AreEachOnce, IsPlan, PlacesEach, Takes, names_with, no_profiles, read_refused, refused_of, take_section, take_under, taking, times_in, unread_refused, with_profile, with_rules}
 use Rattle.hub_serve.specs.declared.taken.Taken.{Taken}
 
 times-append : (k : ℕ) (xs ys : List ℕ) → times_in k (xs ++ ys) ≡ times_in k xs + times_in k ys
@@ -143,7 +144,11 @@ among-one k n l m = go (nat_le 1 k) (nat_le k n) refl refl
     go true false e f = absurd (grind (arith, nat_tests, f, m))
     go false b e f = absurd (grind (arith, nat_tests, e, l))
 
+pub each-once : (counted : List ℕ) (t : Taken) → Takes counted t → AreEachOnce t.roster
+each-once counted t h k l m =
+    sections-numbered h.sections no_profiles t first-numbered h.taken k ∙ among-one k (length t.roster.names) l m
+
 pub plan-places : (bytes text : List ℕ) (whole : Bool) (p : IsPlan bytes text whole) → PlacesEach p.own.roster p.own.rules p.lines
 plan-places bytes text whole p k l m =
     all-split k p.own.roster p.own.rules p.lines
-    ∙ (sections-numbered p.takes.sections no_profiles p.own first-numbered p.takes.taken k ∙ among-one k (length p.own.roster.names) l m)
+    ∙ each-once (counted_bundle bytes) p.own p.takes k l m

@@ -7,6 +7,7 @@ use Rattle.std.proofs.lemmas.List.Elements.{Contains-append_left, Contains-appen
 use Rattle.std.proofs.lemmas.Option.{none-some, same_Some, slice_get_within}
 use Rattle.hub_text.specs.laws.List.{has-item, to-map}
 use Rattle.hub_profile.specs.Parts.{Parts}
+use Rattle.hub_profile.specs.declared.rule.Rule.{Rule}
 use Rattle.hub_reach.specs.Safe.{share_archive}
 use Rattle.hub_cert.specs.declared.fault.CheckFault.{CheckFault}
 use Rattle.hub_apart.specs.ApartLines.{pair_line, with_pairs}
@@ -18,11 +19,12 @@ use Rattle.hub_rounds.specs.Numbered.{IsRoundOfLines}
 use Rattle.hub_unison.specs.Shared.{ShareNoArchive, is_shared, shared_pairs}
 use Rattle.hub_unison.specs.Written.{AreWrittenAs, Written}
 use Rattle.hub_unison.specs.laws.Shared.{none-shared}
-use Rattle.hub_serve.specs.InUnison.{FoundIn, HaveNothing, RoundsInUnison, archives_of}
+use Rattle.hub_serve.specs.InUnison.{AreSafeWithoutLines, HaveNothing, RoundsInUnison}
+use Rattle.hub_serve.specs.Plans.{CutsAlone}
 use Rattle.hub_serve.specs.Unison.{IsSafeRound, SpellsSafeTogether, written_in}
 use Rattle.hub_serve.proofs.InUnison.{itself-pair}
 use Rattle.hub_serve.proofs.SharedPairs.{all-shared, no-archive, two-places}
-use Rattle.hub_serve.proofs.WrittenSections.{bundle-written}
+use Rattle.hub_serve.proofs.WrittenSections.{bundle-written, taken-written}
 
 -- The numbers from one on, so many, and what stands at a place of them.
 at-range : (s n a i : ℕ) → slice_get (range_with_len s n) a ≡ Some i → i ≡ s + a
@@ -113,24 +115,21 @@ either-way : (P Q : Parts) → is_shared P Q ≡ true → is_shared Q P ≡ true
 either-way P Q is = or_comm (share_archive Q P) (share_archive P Q) ∙ is
 
 -- The profiles of a round are safe together.
-module _ (bytes : List ℕ) (f : FoundIn bytes) (count : ℕ) (ns : List ℕ) where
-  abbrev Ws : List Written
-  Ws = written_in f.spelled.sections
-
+module _ (Ws : List Written) (Ps : List Parts) (Rs : List Rule) (es : List CheckFault) (count : ℕ) (ns : List ℕ) where
   abbrev AllLines : List CheckFault
-  AllLines = with_pairs (archives_of f) f.lines
+  AllLines = with_pairs (shared_pairs Ps) es
 
   -- Two that share an archive have a line.
-  has-line : AreWrittenAs Ws f.own.profiles → (i j : ℕ) (V W : Written) → i < j → slice_get Ws i ≡ Some V → slice_get Ws j ≡ Some W → is_shared V.parts W.parts ≡ true → HasPair AllLines i j
+  has-line : AreWrittenAs Ws Ps → (i j : ℕ) (V W : Written) → i < j → slice_get Ws i ≡ Some V → slice_get Ws j ≡ Some W → is_shared V.parts W.parts ≡ true → HasPair AllLines i j
   has-line written i j V W l at_i at_j is =
       let first = written.each i V at_i in
       let second = written.each j W at_j in
       let own : is_shared first.0 second.0 ≡ true =
       subst (λ Q. is_shared first.0 Q ≡ true) second.2.parts (subst (λ P. is_shared P W.parts ≡ true) first.2.parts is) in
-      let among = all-shared f.own.profiles i j first.0 second.0 l first.1 second.1 own in
-      (pair_line (i, j), Contains-append_right f.lines (map pair_line (archives_of f)) (pair_line (i, j)) (to-map pair_line (archives_of f) (i, j) among), itself-pair i j)
+      let among = all-shared Ps i j first.0 second.0 l first.1 second.1 own in
+      (pair_line (i, j), Contains-append_right es (map pair_line (shared_pairs Ps)) (pair_line (i, j)) (to-map pair_line (shared_pairs Ps) (i, j) among), itself-pair i j)
 
-  round-shares-none : AreWrittenAs Ws f.own.profiles → (p : Picked Ws ns) → IsRoundOfLines count AllLines ns → ShareNoArchive (parts_read p.profiles)
+  round-shares-none : AreWrittenAs Ws Ps → (p : Picked Ws ns) → IsRoundOfLines count AllLines ns → ShareNoArchive (parts_read p.profiles)
   round-shares-none written p r = no-archive (parts_read p.profiles) (λ a b P Q l at_a at_b is.
       let V = part-of p.profiles a P at_a in
       let W = part-of p.profiles b Q at_b in
@@ -145,23 +144,31 @@ module _ (bytes : List ℕ) (f : FoundIn bytes) (count : ℕ) (ns : List ℕ) wh
       (λ k. r.apart b a second.0 first.0 (λ e. other (sym e)) second.1 first.1 (has-line written second.0 first.0 W.0 V.0 k second.2 first.2 (either-way V.0.parts W.0.parts own)))
       (two-places first.0 second.0 differ))
 
-  pub round-safe : IsRoundOfLines count AllLines ns → count ≡ length f.own.profiles → IsSafeRound Ws f.own.rules ns
-  round-safe r many =
-      let written : AreWrittenAs Ws f.own.profiles = bundle-written (counted_bundle bytes) f.own f.spelled in
+  pub round-safe : AreWrittenAs Ws Ps → AreSafeWithoutLines Ps Rs es → IsRoundOfLines count AllLines ns → count ≡ length Ps → IsSafeRound Ws Rs ns
+  round-safe written safe r many =
       let p = picked Ws ns (λ a i at. let l = r.below a i at in let e = written.count in omega (arith, l, e, many)) in
       let some : AreSome Ws p.profiles ns = record { place = p.place; once = r.once } in
-      let no_pair : HaveNoPair f.lines ns = λ a b i j other at_a at_b has.
-      r.apart a b i j other at_a at_b (fewer-pairs f.lines (map pair_line (archives_of f)) i j has) in
-      let no_own : HaveNoOwnLine f.lines ns = λ a i at. fewer-own f.lines (map pair_line (archives_of f)) i (r.alone a i at) in
+      let no_pair : HaveNoPair es ns = λ a b i j other at_a at_b has.
+      r.apart a b i j other at_a at_b (fewer-pairs es (map pair_line (shared_pairs Ps)) i j has) in
+      let no_own : HaveNoOwnLine es ns = λ a i at. fewer-own es (map pair_line (shared_pairs Ps)) i (r.alone a i at) in
       record {
         profiles = p.profiles;
         count = p.count;
         some = some;
-        together = f.found.safe Ws p.profiles ns written some no_pair no_own (round-shares-none written p r);
+        together = safe Ws p.profiles ns written some no_pair no_own (round-shares-none written p r);
       }
 
--- And so are those of each round of an input.
+-- And so are those of each round of an input,
 pub rounds-safe : (bytes text : List ℕ) (well : Bool) (r : RoundsInUnison bytes text well) (k : ℕ) (numbers : List ℕ) → slice_get r.rounds.rounds k ≡ Some numbers
     → IsSafeRound (written_in r.input.spelled.sections) r.input.own.rules numbers
 rounds-safe bytes text well r k numbers at =
-    round-safe bytes r.input (length r.input.own.profiles) numbers (r.cut.each k numbers at) refl
+    let own = r.input.own in
+    round-safe (written_in r.input.spelled.sections) own.profiles own.rules r.input.lines (length own.profiles) numbers
+    (bundle-written (counted_bundle bytes) own r.input.spelled) r.input.found.safe (r.cut.each k numbers at) refl
+
+-- and of each round of those of its profiles that are read.
+pub rounds-alone-safe : (bytes text : List ℕ) (well : Bool) (r : CutsAlone bytes text well) (k : ℕ) (numbers : List ℕ) → slice_get r.rounds.rounds k ≡ Some numbers
+    → IsSafeRound (written_in r.takes.sections) r.own.rules numbers
+rounds-alone-safe bytes text well r k numbers at =
+    round-safe (written_in r.takes.sections) r.own.profiles r.own.rules r.lines (length r.own.profiles) numbers
+    (taken-written (counted_bundle bytes) r.own r.takes) r.found.safe (r.cut.each k numbers at) refl

@@ -1,6 +1,6 @@
 -- From lines in Unison to what is safe without them, and unsafe with them.
-use Rattle.std.proofs.Common.{◌≡◌, ◌∙◌, None, true, ℕ, List}
-use Rattle.std.specs.Prelude.{Contains}
+use Rattle.std.proofs.Common.{◌≡◌, ◌∙◌, None, true, ℕ, List, Result, Ok, Err}
+use Rattle.std.specs.Prelude.{Contains, IfOk}
 use Rattle.std.specs.List.Sorted.{IsPermutation}
 use Rattle.std.proofs.lemmas.List.Sorted.{Contains-permutation, IsPermutation-sym}
 use Rattle.hub_profile.specs.Parts.{Parts}
@@ -18,7 +18,7 @@ use Rattle.hub_unison.specs.Shared.{ShareNoArchive}
 use Rattle.hub_unison.specs.Written.{Written}
 use Rattle.hub_serve.proofs.PlansInUnison.{SomeAreSafe}
 use Rattle.hub_serve.specs.InUnison.{AreSafeWithoutLines, ShowUnsafeParts, namesake}
-use Rattle.hub_serve.specs.forms.InUnison.{IsFoundOf}
+use Rattle.hub_serve.specs.forms.InUnison.{IsFoundOf, IsSearchedOf}
 
 -- The laws of profiles without lines in Unison, and of lines that show a path.
 abbrev pub SomeNeverClash : Type 0
@@ -62,11 +62,10 @@ show-unsafe show Ps Rs es fs are same = λ e has shows. show Ps Rs es e are (Con
 -- What is found of profiles and rules, where these lines were searched and those are by who writes.
 pub by-writer-found : SomeNeverClash → SomeAreSafe → SomeKeepRules → LinesShow → (Ps : List Parts) (Rs : List Rule) (searched found : Apart) → AreValid Ps
     → searched.profiles ≡ beside Rs Ps → searched.rules ≡ Rs → AreLinesInUnison Ps Rs searched.lines
-    → found.profiles ≡ searched.profiles → found.rules ≡ searched.rules → IsPermutation searched.lines found.lines → AreByWriter found.lines → namesake Ps ≡ None → IsFoundOf Ps Rs found
-by-writer-found anywhere safe kept show Ps Rs searched found valid readings rules are same_profiles same_rules same order names = record {
+    → found.profiles ≡ searched.profiles → found.rules ≡ searched.rules → IsPermutation searched.lines found.lines → AreByWriter found.lines → IsSearchedOf Ps Rs found
+by-writer-found anywhere safe kept show Ps Rs searched found valid readings rules are same_profiles same_rules same order = record {
   profiles = same_profiles ∙ readings;
   rules = same_rules ∙ rules;
-  names = names;
   lines = record {
     searched = searched.lines;
     all = are;
@@ -76,3 +75,8 @@ by-writer-found anywhere safe kept show Ps Rs searched found valid readings rule
     unsafe = show-unsafe show Ps Rs searched.lines found.lines are same;
   };
 }
+
+-- The same where no two profiles have one name.
+pub named-found : {E : Type 0} (Ps : List Parts) (Rs : List Rule) (r : Result Apart E) → namesake Ps ≡ None → IfOk r (IsSearchedOf Ps Rs) → IfOk r (IsFoundOf Ps Rs)
+named-found Ps Rs (Ok found) names h = record { profiles = h.profiles; rules = h.rules; names = names; lines = h.lines }
+named-found Ps Rs (Err e) names h = tt

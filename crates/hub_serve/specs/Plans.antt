@@ -1,6 +1,7 @@
--- What a plan of Unison's runs says of an input.
-use Rattle.std.specs.Prelude.{◌≡◌, ◌⊎◌, ◌<◌, ◌≤◌, ◌==◌, ◌+◌, ℕ, Bool, true, false, if◌then◌else◌, List, [], ◌∷◌, ◌++◌, length, slice_get, Some, Contains, Result, Ok, Err, string_bytes}
-use Rattle.hub_path.specs.Path.{Name}
+-- What a plan of Unison's runs says of an input, and what rounds say beside which profiles run alone.
+use Rattle.std.specs.Prelude.{◌≡◌, ◌⊎◌, ◌<◌, ◌≤◌, ◌==◌, ◌+◌, ◌&&◌, ℕ, Bool, true, false, if◌then◌else◌, List, [], ◌∷◌, ◌++◌, length, slice_get, Option, Some, None, Contains, Result, Ok, Err, string_bytes}
+use Rattle.std.specs.List.{list_any}
+use Rattle.hub_path.specs.Path.{Name, name_eq}
 use Rattle.hub_profile.specs.Parts.{Parts}
 use Rattle.hub_profile.specs.Reading.{profile_in}
 use Rattle.hub_profile.specs.Rules.{rules_in}
@@ -9,32 +10,52 @@ use Rattle.hub_profile.specs.declared.fault.Fault.TheVariants.{OutOfMemory}
 use Rattle.hub_profile.specs.declared.fault.ProfileFault.{ProfileFault}
 use Rattle.hub_profile.specs.declared.rule.Rule.{Rule}
 use Rattle.hub_cert.specs.declared.fault.CheckFault.{CheckFault}
+use Rattle.hub_cert.specs.declared.fault.CheckFault.TheVariants.{SameName}
 use Rattle.hub_apart.specs.declared.searched.Apart.{Apart}
-use Rattle.hub_apart.specs.ApartLines.{set_of}
+use Rattle.hub_apart.specs.ApartLines.{set_of, with_pairs}
 use Rattle.hub_apart.specs.UnisonLines as unison
 use Rattle.hub_apart.specs.WithoutLines.{NeverClash}
 use Rattle.hub_parts.specs.InUnison.{parts_read}
 use Rattle.hub_parts.specs.Whole.{AreRootsApart}
 use Rattle.hub_reach.specs.Safe.{share_archive}
 use Rattle.hub_rounds.specs.Lines.{HasNoOwnLine, HasPair}
+use Rattle.hub_rounds.specs.Numbered.{AreRoundsOfLines}
+use Rattle.hub_rounds.specs.declared.numbered.NumberedRounds.{NumberedRounds}
 use Rattle.hub_bundle.specs.Bundle.{SectionValue, bundle_reading}
 use Rattle.hub_bundle.specs.declared.bundle.Heading.{Heading}
 use Rattle.hub_bundle.specs.declared.bundle.Heading.TheVariants as heading
 use Rattle.hub_bundle.specs.declared.sections.SectionFault.{SectionFault}
 use Rattle.hub_bundle.specs.declared.sections.SectionFault.TheVariants.{OfRules}
 use Rattle.hub_text.specs.Fails.{and_then}
+use Rattle.hub_cli.specs.Words.{Request, planned, rounds_alone}
 use Rattle.hub_preferences.specs.Counted.{counted_bundle}
+use Rattle.hub_report.specs.Alone.{alone_lines, are_known}
 use Rattle.hub_report.specs.Plan.{is_refused, is_whole, order_of, plan_text, run_alone, unread_numbers}
 use Rattle.hub_report.specs.Refusal.{refusal_line}
+use Rattle.hub_report.specs.Rounds.{numbers_text}
 use Rattle.hub_report.specs.declared.plan.Plan.{Plan}
 use Rattle.hub_report.specs.declared.plan.Roster.{Roster}
 use Rattle.hub_report.specs.declared.plan_answer.PlanAnswer.{PlanAnswer}
-use Rattle.hub_report.specs.declared.plan_answer.PlanAnswer.TheVariants.{Made, Refused, BadRules}
+use Rattle.hub_report.specs.declared.plan_answer.PlanAnswer.TheVariants.{Made, Cut, Refused, BadRules}
 use Rattle.hub_unison.specs.Rules.{KeepsRulesInUnison}
 use Rattle.hub_unison.specs.Shared.{ShareNoArchive, shared_pairs}
 use Rattle.hub_unison.specs.UnisonReach.{IsSafeInUnison}
 use Rattle.hub_unison.specs.Written.{AreWrittenAs, Written}
+use Rattle.hub_serve.specs.InUnison.{AreFoundInUnison, are_decided}
+use Rattle.hub_serve.specs.declared.plan_question.PlanQuestion.{PlanQuestion}
+use Rattle.hub_serve.specs.declared.plan_question.PlanQuestion.TheVariants as question
 use Rattle.hub_serve.specs.declared.taken.Taken.{Taken}
+
+-- The words that ask so, and whether words do: by these a faulty profile keeps no other from being
+-- read.
+abbrev pub plan_request : PlanQuestion → Request
+plan_request question.Plan = planned
+plan_request question.Rounds = rounds_alone
+
+abbrev pub reads_around_faults : Request → Bool
+reads_around_faults planned = true
+reads_around_faults rounds_alone = true
+reads_around_faults _ = false
 
 -- Before the first section.
 abbrev pub no_profiles : Taken
@@ -191,18 +212,62 @@ pub record IsPlan (bytes text : List ℕ) (whole : Bool) : Type 0 where
       (shared_pairs own.profiles)
   pub whole_is : whole ≡ is_whole own.roster own.rules lines
 
--- That one or two of the profiles can't be searched is so of a bundle, and this is the line that says
--- why.
-pub record IsUnplanned (bytes line : List ℕ) : Type 0 where
+-- The first of these names that a later one is, too.
+abbrev pub twice : List Name → Option Name
+twice [] = None
+twice (n ∷ ns) = if list_any (name_eq n) ns then Some n else twice ns
+
+-- Each profile is read, or isn't, and has a number of its own.
+abbrev pub AreEachOnce : Roster → Type 0
+AreEachOnce r =
+    (k : ℕ) → 0 < k → k ≤ length r.names
+    → times_in k r.numbers + times_in k (unread_numbers r.unread) ≡ 1
+
+-- A text has the rounds of a bundle's profiles that are read, by their lines in Unison, and by a line
+-- for each two with the same two roots. The others run alone: each has its lines below. No two of all
+-- have one name.
+pub record CutsAlone (bytes text : List ℕ) (decided : Bool) : Type 0 where
+  pub own : Taken
+  pub takes : Takes (counted_bundle bytes) own
+  pub names : twice own.roster.names ≡ None
+  pub lines : List CheckFault
+  pub found : AreFoundInUnison own.profiles own.rules lines
+  pub rounds : NumberedRounds
+  pub cut : AreRoundsOfLines (length own.profiles)
+      (with_pairs (shared_pairs own.profiles) lines) rounds
+  pub text_is : text
+      ≡ numbers_text (unison.beside own.rules own.profiles) rounds
+      ++ alone_lines own.roster own.rules
+  pub decided_is : decided
+      ≡ (are_decided (with_pairs (shared_pairs own.profiles) lines) rounds
+      && are_known own.roster own.rules)
+
+-- Why there is no plan, or why there are no rounds: one or two of the profiles can't be searched. For
+-- rounds, which name profiles, it may also be that two have one name.
+abbrev pub HaveOneName : Request → Roster → CheckFault → Type 0
+HaveOneName rounds_alone r e = (n : Name) × (twice r.names ≡ Some n) × (e ≡ SameName n)
+HaveOneName _ r e = ⊥
+
+abbrev pub IsUnplannable : Request → Taken → CheckFault → Type 0
+IsUnplannable request t e =
+    HaveOneName request t.roster e ⊎ unison.IsRefusedInUnison t.profiles t.rules e
+
+-- That is so of a bundle, and this is the line that says why.
+pub record IsUnplanned (request : Request) (bytes line : List ℕ) : Type 0 where
   pub own : Taken
   pub takes : Takes (counted_bundle bytes) own
   pub reason : CheckFault
-  pub refused : unison.IsRefusedInUnison own.profiles own.rules reason
+  pub refused : IsUnplannable request own reason
   pub line_is : line
       ≡ refusal_line (set_of (unison.beside own.rules own.profiles) own.rules) reason
 
--- What holds of a bundle where a plan was asked for and that is the answer.
-abbrev pub PlanHolds : List ℕ → PlanAnswer → Type 0
-PlanHolds bytes (Made p) = IsPlan bytes (string_bytes p.text) p.is_whole
-PlanHolds bytes (Refused line refusal) = IsUnplanned bytes (string_bytes line)
-PlanHolds bytes (BadRules f) = HasBadRules (counted_bundle bytes) f
+-- What holds of the words and of a bundle where that is the answer.
+abbrev pub PlanHolds : Request → List ℕ → PlanAnswer → Type 0
+PlanHolds request bytes (Made p) =
+    (request ≡ planned) × IsPlan bytes (string_bytes p.text) p.is_whole
+PlanHolds request bytes (Cut c) =
+    (request ≡ rounds_alone) × CutsAlone bytes (string_bytes c.text) c.decided
+PlanHolds request bytes (Refused line refusal) =
+    (reads_around_faults request ≡ true) × IsUnplanned request bytes (string_bytes line)
+PlanHolds request bytes (BadRules f) =
+    (reads_around_faults request ≡ true) × HasBadRules (counted_bundle bytes) f

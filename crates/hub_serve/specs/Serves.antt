@@ -15,7 +15,7 @@ use Rattle.hub_report.specs.Report.{says_read_failed, status_of, text_of, unread
 use Rattle.hub_serve.specs.Reads.{AreSpent, Reads, reads_between}
 use Rattle.hub_serve.specs.Rounds.{BeginsAsClash}
 use Rattle.hub_serve.specs.Told.{Holds}
-use Rattle.hub_serve.specs.Shown.{TellsSafe, SpellsSafe, SpellsUnsafe, SpellsVerified, SpellsClashes, SpellsRounds, SpellsGraph, SpellsRoundsRun, SpellsRunInOrder, SpellsArchive, SpellsPlan, ShowsImport, SpellsReach, ShowsMend}
+use Rattle.hub_serve.specs.Shown.{TellsSafe, SpellsSafe, SpellsUnsafe, SpellsVerified, SpellsClashes, SpellsRounds, SpellsRoundsAlone, SpellsGraph, SpellsRoundsRun, SpellsRunInOrder, SpellsArchive, SpellsPlan, ShowsImport, SpellsReach, ShowsMend}
 use Rattle.hub_text.specs.declared.watched.Watched.{Watched}
 
 -- A text was written to an output, whole unless a call of the output failed: then a prefix of it,
@@ -94,6 +94,10 @@ pub record Serves (asked : Option Request) (remaining old new : Option (List ℕ
       → asked ≡ Some (question.about (ask.Rounds reading))
       → Begins remaining old new (codes "rounds ") bytes text
       → SpellsRounds asked bytes (codes "rounds " ++ text) failed status
+  -- The same where they ask for rounds beside which profiles that can't be read run alone.
+  pub rounds_alone : (bytes text : List ℕ) → asked ≡ Some question.rounds_alone
+      → Begins remaining old new (codes "rounds ") bytes text
+      → SpellsRoundsAlone asked bytes (codes "rounds " ++ text) failed status
   -- `in order` is written only if they ask for a run in order. What follows it is what the jobs of the
   -- set that the input spells did, and the state that they left: what they leave one after another, in
   -- the order of their profiles, of the input's state (`IsSerial`). Or it says why they weren't run.
@@ -130,13 +134,14 @@ pub record ServesInFull (asked : Option Request) (remaining old new : Option (Li
   pub safe : (bytes text : List ℕ) → asks_mend asked ≡ false
       → Begins remaining old new (codes "safe\n") bytes text
       → TellsSafe asked bytes text write_failed status
-  -- `rounds` is written only if the words ask for rounds, and the input spells a set that is cut so;
-  -- or if they ask for a run by rounds, and the rounds of the set that it spells were run on its
-  -- state, one after another.
+  -- `rounds` is written only if the words ask for rounds, and the input spells a set that is cut so, or
+  -- of which those profiles are that can be read; or if they ask for a run by rounds, and the rounds of
+  -- the set that it spells were run on its state, one after another.
   pub rounds : (bytes text : List ℕ) → asks_mend asked ≡ false
       → Begins remaining old new (codes "rounds ") bytes text
       → SpellsRounds asked bytes (codes "rounds " ++ text) write_failed status
-      ⊎ SpellsRoundsRun asked bytes (codes "rounds " ++ text) write_failed status
+      ⊎ (SpellsRoundsAlone asked bytes (codes "rounds " ++ text) write_failed status
+      ⊎ SpellsRoundsRun asked bytes (codes "rounds " ++ text) write_failed status)
   -- `graph clashes {` is written only if they ask for the graph of what clashes in that set.
   pub graph : (bytes text : List ℕ) → asks_mend asked ≡ false
       → Begins remaining old new (codes "graph clashes {") bytes text

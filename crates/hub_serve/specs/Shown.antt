@@ -12,7 +12,7 @@ use Rattle.hub_cli.specs.declared.words.Reading.TheVariants as read
 use Rattle.hub_cli.specs.Words.{Request, reading_for, reading_of}
 use Rattle.hub_cli.specs.Words as question
 use Rattle.hub_serve.specs.declared.task.Task.{Task}
-use Rattle.hub_serve.specs.Mended.{Mends, mend_text}
+use Rattle.hub_serve.specs.Mended.{mend_text}
 use Rattle.hub_mend.specs.Additions.{mended_text}
 use Rattle.hub_mend.specs.declared.piece.Piece.{Piece}
 use Rattle.hub_import.specs.Imported.{contents_of}
@@ -26,7 +26,7 @@ use Rattle.hub_serve.specs.ByRounds.{HasRunByRounds}
 use Rattle.hub_serve.specs.InOrder.{IsBelowInOrder}
 use Rattle.hub_serve.specs.Rounds.{DrawsClashes, ListsClashes, WritesRounds}
 use Rattle.hub_serve.specs.Runs.{IsBelow}
-use Rattle.hub_serve.specs.Plans.{IsApart, IsPlan, PlacesEach, RunBeside}
+use Rattle.hub_serve.specs.Plans.{AreEachOnce, CutsAlone, IsApart, IsPlan, PlacesEach, RunBeside}
 use Rattle.hub_rounds.specs.Lines.{HasNoOwnLine}
 use Rattle.hub_unison.specs.Rules.{KeepsRulesInUnison}
 use Rattle.hub_unison.specs.Shared.{ShareNoArchive, is_shared, shared_pairs}
@@ -36,7 +36,7 @@ use Rattle.hub_serve.specs.Unison.{IsSafeRound, SpellsAs, SpellsSafeInUnison, Sp
 use Rattle.hub_serve.specs.InUnison.{DrawsInUnison, ListsInUnison, RoundsInUnison}
 use Rattle.hub_apart.specs.UnsafeParts.{HasUnsafePart}
 use Rattle.hub_serve.specs.Task.{task_of}
-use Rattle.hub_serve.specs.Told.{ReachIs, SaysOfMended}
+use Rattle.hub_serve.specs.Told.{IsMendedAs, ReachIs}
 
 -- A text is the whole of what is to be told, with the status of that, unless a call of the output
 -- failed: then it is a prefix, and the status is 2.
@@ -173,6 +173,22 @@ pub record ShowsRounds (asked : Option Request) (bytes text : List ℕ) (status 
 abbrev pub SpellsRounds : Option Request → List ℕ → List ℕ → Bool → ℕ → Type 0
 SpellsRounds asked bytes = TellsUnlessFailed (ShowsRounds asked bytes)
 
+-- The words ask for rounds of the profiles of the bundle that can be read, and these are written. The
+-- profiles of each round are safe together in Unison. Each of the others runs alone, and the text says
+-- so. The status is 0 if all is decided, else 1.
+pub record ShowsRoundsAlone (asked : Option Request) (bytes text : List ℕ) (status : ℕ) :
+    Type 0 where
+  pub is_asked : asked ≡ Some question.rounds_alone
+  pub well : Bool
+  pub cut : CutsAlone bytes text well
+  pub safe : (k : ℕ) (numbers : List ℕ) → slice_get cut.rounds.rounds k ≡ Some numbers
+      → IsSafeRound (written_in cut.takes.sections) cut.own.rules numbers
+  pub once : AreEachOnce cut.own.roster
+  pub status_is : status ≡ (if well then 0 else 1)
+
+abbrev pub SpellsRoundsAlone : Option Request → List ℕ → List ℕ → Bool → ℕ → Type 0
+SpellsRoundsAlone asked bytes = TellsUnlessFailed (ShowsRoundsAlone asked bytes)
+
 -- The words ask for a plan, and this is that of the bundle. If it doesn't say of two own profiles
 -- that are read that they may not run at the same time, these don't clash in Unison, wherever their
 -- roots lie, and share no archive. By one of which it says nothing alone Unison breaks no rule. Each
@@ -295,16 +311,15 @@ pub record SpellsReach (asked : Option Request) (bytes : List ℕ) (answer : Boo
       → SpellsUnreachedInUnison bytes answered.profile answered.p
 
 -- A text has lines that only take away, and what is said of the bundle with them, or it is that
--- bundle. The status is 0 only if its set is safe. If that is for Unison, no two of its own profiles
--- clash in Unison, and Unison breaks none of its rules.
+-- bundle. The status is 0 only if its set is safe. If that is for Unison, its own profiles are safe
+-- together: no two of them clash in Unison, wherever their roots lie, and Unison breaks none of its
+-- rules.
 pub record ShowsMend (reading : Reading) (as_bundle : Bool) (bytes text : List ℕ)
     (status : ℕ) : Type 0 where
   pub pieces : List Piece
-  pub new : BundleContents
-  pub mends : Mends reading bytes pieces new
   pub safe : Bool
   pub line : List ℕ
-  pub said : SaysOfMended reading safe new pieces line
+  pub mended : IsMendedAs reading bytes pieces safe line
   pub text_is : text ≡ mend_text as_bundle pieces line
   pub status_is : status ≡ (if safe then 0 else 1)
-  pub in_unison : reading ≡ read.Unison → safe ≡ true → SpellsSafeInUnison (mended_text pieces)
+  pub in_unison : reading ≡ read.Unison → safe ≡ true → SpellsSafeTogether (mended_text pieces)

@@ -24,6 +24,7 @@ use Rattle.hub_bundle.specs.declared.sections.BundleContents.{BundleContents}
 use Rattle.hub_bundle.specs.Bundle.{bundle_reading}
 use Rattle.hub_bundle.specs.Sections.{Spells, HasFault, members}
 use Rattle.hub_cli.specs.declared.words.Reading.{Reading}
+use Rattle.hub_cli.specs.declared.words.Reading.TheVariants.{Plain, Unison}
 use Rattle.hub_cli.specs.Words.{Request, reading_for}
 use Rattle.hub_cli.specs.Words as question
 use Rattle.hub_report.specs.declared.report.Report.{Report}
@@ -43,10 +44,11 @@ use Rattle.hub_report.specs.declared.verdict.Verdict.TheVariants.{Safe, Verified
 use Rattle.hub_serve.specs.declared.task.Task.{Task}
 use Rattle.hub_serve.specs.declared.task.Task.TheVariants as task
 use Rattle.hub_serve.specs.Reached.{first_named}
-use Rattle.hub_serve.specs.Mended.{Mends, asks_mend, mend_text}
+use Rattle.hub_serve.specs.Mended.{Mends, MendsInUnison, asks_mend, mend_text}
 use Rattle.hub_serve.specs.Plans.{PlanHolds}
+use Rattle.hub_serve.specs.InUnison.{HaveNothing, IsArchiveLine, IsFirstLine, IsUnsearched}
 use Rattle.hub_serve.specs.InUnison.{UnisonHolds, asked_in_unison}
-use Rattle.hub_mend.specs.Additions.{line_count, safe_line}
+use Rattle.hub_mend.specs.Additions.{line_count, mended_text, safe_line}
 use Rattle.hub_mend.specs.declared.piece.Piece.{Piece}
 use Rattle.hub_report.specs.Archive.{archive_line}
 use Rattle.hub_report.specs.Refusal.{refusal_line}
@@ -254,23 +256,41 @@ pub record IsTrueOf (request : Request) (bytes : List ℕ) (r : Report) : Type 0
   pub spelled : SpellsAs (reading_for request) bytes contents
   pub told : IsTold request contents r
 
--- `check` refuses a bundle whose profiles are read so, with this line.
-pub record IsRefusedWith (reading : Reading) (c : BundleContents) (line : List ℕ) : Type 0 where
+-- `check` refuses a bundle with this line.
+pub record IsRefusedWith (c : BundleContents) (line : List ℕ) : Type 0 where
   pub reason : CheckFault
-  pub refused : IsRefusedFor (task.Check reading) c reason
+  pub refused : IsRefusedFor (task.Check Plain) c reason
   pub line_is : line ≡ refusal_line (members c) reason
 
--- What is said of a bundle with so many lines, whose profiles are read so, and which is safe or not:
--- that it is, and no archive is shared; why `check` refuses it; or which archive is shared.
-abbrev pub SaysOf : Reading → Bool → BundleContents → ℕ → List ℕ → Type 0
-SaysOf reading true c n line =
-    IsSafeSet (members c) × (archives_as reading c.profiles ≡ []) × (line ≡ safe_line n)
-SaysOf reading false c n line =
-    IsRefusedWith reading c line ⊎ SharesArchive reading (members c) line
+-- What is said of a bundle with so many lines, which is safe or not: that it is, or why `check`
+-- refuses it.
+abbrev pub SaysOf : Bool → BundleContents → ℕ → List ℕ → Type 0
+SaysOf true c n line = IsSafeSet (members c) × (line ≡ safe_line n)
+SaysOf false c n line = IsRefusedWith c line
 
 -- The same of a bundle with these lines.
-abbrev pub SaysOfMended : Reading → Bool → BundleContents → List Piece → List ℕ → Type 0
-SaysOfMended reading safe c pieces line = SaysOf reading safe c (line_count pieces) line
+abbrev pub SaysOfMended : Bool → BundleContents → List Piece → List ℕ → Type 0
+SaysOfMended safe c pieces line = SaysOf safe c (line_count pieces) line
+
+-- `check --unison` of this input says this line, and not that it is safe: the first line of all, which
+-- archive is shared, or why its profiles aren't searched.
+abbrev pub IsUnsafeInUnison : List ℕ → List ℕ → Type 0
+IsUnsafeInUnison bytes line =
+    IsFirstLine bytes line ⊎ IsArchiveLine bytes line ⊎ IsUnsearched bytes line
+
+-- What is said for Unison of a bundle with these lines: that it has no line and that no archive is
+-- shared, or what `check --unison` says of it.
+abbrev pub SaysInUnison : Bool → List Piece → List ℕ → Type 0
+SaysInUnison true pieces line =
+    HaveNothing (mended_text pieces) × (line ≡ safe_line (line_count pieces))
+SaysInUnison false pieces line = IsUnsafeInUnison (mended_text pieces) line
+
+-- Lines were found for a bundle that only take away, and that is said of the bundle with them.
+abbrev pub IsMendedAs : Reading → List ℕ → List Piece → Bool → List ℕ → Type 0
+IsMendedAs Plain bytes pieces safe line =
+    (new : BundleContents) × Mends bytes pieces new × SaysOfMended safe new pieces line
+IsMendedAs Unison bytes pieces safe line =
+    MendsInUnison bytes pieces × SaysInUnison safe pieces line
 
 -- It was asked for lines that make the bundle's set safe, and these are written, or the bundle with
 -- them.
@@ -279,10 +299,8 @@ pub record IsMended (request : Request) (bytes : List ℕ) (m : Mended) : Type 0
   pub as_bundle : Bool
   pub asked : request ≡ question.mended reading as_bundle
   pub pieces : List Piece
-  pub new : BundleContents
-  pub mends : Mends reading bytes pieces new
   pub line : List ℕ
-  pub said : SaysOfMended reading m.safe new pieces line
+  pub mended : IsMendedAs reading bytes pieces m.safe line
   pub text_is : m.text.items ≡ mend_text as_bundle pieces line
 
 -- What holds of an input that isn't read. That a read failed is no fact about its bytes:
@@ -309,7 +327,7 @@ IsUnspelled counted _ = ⊥
 abbrev pub Holds : Request → List ℕ → Report → Type 0
 Holds request bytes (answer.Faulty f) = IsFaulty (reading_for request) bytes f
 Holds request bytes answer.OutOfMemory = ⊤
-Holds request bytes (answer.Planned a) = (request ≡ question.planned) × PlanHolds bytes a
+Holds request bytes (answer.Planned a) = PlanHolds request bytes a
 Holds request bytes (answer.InUnison a) = UnisonHolds (asked_in_unison request) bytes a
 Holds request bytes (answer.Mended m) = IsMended request bytes m
 Holds request bytes answer.NotMended = asks_mend (Some request) ≡ true

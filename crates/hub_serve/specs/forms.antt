@@ -1,3 +1,4 @@
 pub mod Mending
 pub mod Planning
+pub mod Alone
 pub mod InUnison

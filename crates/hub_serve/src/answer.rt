@@ -12,6 +12,7 @@ ghost use Rattle.hub_serve.specs.Unison.{IsReadAs, SpellsAs, SpellsCounted};
 use crate::import::report_on_import;
 use crate::mend::report_on_mend;
 use crate::plan::report_on_plan;
+use crate::plan_question::PlanQuestion;
 use crate::progress::Progress;
 use crate::reach::report_on_reach;
 use crate::reading::{counted_as, read_as};
@@ -72,7 +73,8 @@ fn report_on_bytes<'a, T: Threads + Wait + Sync, P: Progress + Sync>(
             Some(asked) => report_on_unison(alloc, asked, bytes),
             None => report_on_question(rt, alloc, question, bytes, progress),
         },
-        Query::Plan => report_on_plan(alloc, bytes),
+        Query::Plan => report_on_plan(alloc, PlanQuestion::Plan, bytes),
+        Query::RoundsAlone => report_on_plan(alloc, PlanQuestion::Rounds, bytes),
         Query::Mend { reading, as_bundle } => {
             report_on_mend(rt, alloc, reading, as_bundle, bytes, progress)
         }

@@ -14,15 +14,16 @@
 //!
 //! - The words are read by `hub_cli`. The input is read by `hub_bundle`, with all of its sections (`answer`).
 //! - By `--unison` a check, what clashes and rounds are answered of the profiles as Unison may run them (`unison`): `hub_apart` searches
-//!   each two near ones and each with the rules, and what is answered of their lines is in `unison_clashes`. For `reach`, `import` and
-//!   `mend` the readings of `hub_unison` stand in the place of a bundle's profiles (`reading`).
+//!   each two near ones and each with the rules, and what is answered of their lines is in `unison_clashes`. For `reach` and `import`
+//!   the readings of `hub_unison` stand in the place of a bundle's profiles (`reading`).
 //! - The set of the profiles and rules is made, and is checked or its certificates are verified (`task`, `verdict`); or one
 //!   profile is asked whether it reaches a path (`reach`).
 //! - Or all that clashes in the set is listed or drawn, or it is cut into rounds (`rounds`). Or a bundle is written of what was read
 //!   for Unison (`import`).
 //! - Or a plan is made of Unison's runs. What it takes of the sections is in `taken`: there a faulty profile keeps no other from being
-//!   read. How it goes on is in `plan`.
-//! - Or lines are found that make the set safe (`hub_mend`), and the bundle with them is read again and checked (`mend`).
+//!   read. How it goes on is in `plan`, and in `alone` for rounds beside which such a profile runs alone.
+//! - Or lines are found that make the set safe (`hub_mend`), and the bundle with them is read again and checked (`mend`), by
+//!   `--unison` as `check --unison` does (`mend_in_unison`).
 //! - The jobs of a safe set are run on the bundle's state (`run`), or the rounds of a set are run one after another
 //!   (`by_rounds`), or the jobs of any set as if one after another (`in_order`).
 //! - The answer is a `Report` of `hub_report`. It is written as one line, as the certificates' text, or as `safe` and below it
@@ -48,13 +49,16 @@
 //! That `fault: a round was not verified` never comes. The lines on standard error are tested.
 #![tactic(auto)]
 
+mod alone;
 mod answer;
 mod by_rounds;
 mod import;
 mod in_order;
 pub mod laws;
 mod mend;
+mod mend_in_unison;
 mod plan;
+mod plan_question;
 mod program;
 mod progress;
 mod reach;

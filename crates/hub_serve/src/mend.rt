@@ -1,17 +1,17 @@
 //! Lines that make the set of a bundle's profiles and rules safe.
-ghost use Rattle.std.specs.Prelude.{◌≡◌, ◌⊎◌, [], true, IfErr, IfOk, None};
-ghost use Rattle.hub_cli.specs.Words.{mended, reading_for, request_of};
+ghost use Rattle.std.specs.Prelude.{◌≡◌, false, true, IfErr, IfOk, None};
+ghost use Rattle.hub_cli.specs.Words.{mended};
 ghost use Rattle.hub_bundle.specs.Sections.{members};
 ghost use Rattle.hub_cert.specs.Set.{IsSafeSet};
+ghost use Rattle.hub_mend.specs.Additions.{line_count, safe_line};
 ghost use Rattle.hub_mend.specs.TakesAway.{AllTakeAway};
 ghost use Rattle.hub_report.specs.Report.{unread_by};
 ghost use Rattle.hub_serve.specs.Mended as spec;
-ghost use Rattle.hub_serve.specs.forms.Mending.{CheckTells, HoldsIf, MendsTextOf};
+ghost use Rattle.hub_serve.specs.forms.Mending as form;
 ghost use Rattle.hub_serve.specs.Told as told;
-ghost use Rattle.hub_serve.specs.Told.{SaysOfMended};
-ghost use Rattle.hub_serve.specs.Unison.{archives_as};
 
-use crate::answer::contents_in;
+use crate::answer::{contents_in, own_contents};
+use crate::mend_in_unison::report_in_unison;
 use crate::progress::Progress;
 use crate::verdict::report_on_set;
 use hub_bundle::BundleContents;
@@ -45,17 +45,11 @@ pub fn report_on_mend<'a, T: Threads + Wait + Sync, P: Progress + Sync>(
     if !is_cut_into(bytes.as_slice(), pieces.as_slice()) {
         return Report::NotMended;
     }
-    let asked = Query::Mend { reading, as_bundle };
-    let old = match contents_in(alloc, asked, bytes) {
-        Ok(old) => old,
-        Err(report) => return report,
-    };
-    match new_contents(alloc, asked, &old, pieces.as_slice()) {
-        Ok(new) => {
-            let said = report_on_set(rt, alloc, Question::Check(reading), new, progress);
-            report_on_said(alloc, as_bundle, pieces.as_slice(), said)
+    match reading {
+        Reading::Plain => report_on_set_with(rt, alloc, as_bundle, bytes, pieces, progress),
+        Reading::Unison => {
+            report_in_unison(alloc, as_bundle, bytes.as_slice(), pieces.as_slice())
         }
-        Err(report) => report,
     }
 }
 
@@ -67,21 +61,45 @@ fn is_for_unison(reading: Reading) -> bool {
     }
 }
 
+/// The answer with these lines, where all of the bundle with them is checked as one set.
+fn report_on_set_with<'a, T: Threads + Wait + Sync, P: Progress + Sync>(
+    rt: &T,
+    alloc: Global,
+    as_bundle: bool,
+    bytes: Vec<u8>,
+    pieces: Vec<Piece>,
+    progress: &P,
+) -> Report<'a>
+    ensures holds { form.HoldsOfParts Reading.Plain as_bundle bytes.items pieces.items result }
+    ensures read { unread_by result ≡ None }
+{
+    let reading = Reading::Plain;
+    let old = match contents_in(alloc, Query::Mend { reading, as_bundle }, bytes) {
+        Ok(old) => old,
+        Err(report) => return report,
+    };
+    match new_contents(alloc, &old, pieces.as_slice()) {
+        Ok(new) => {
+            let said = report_on_set(rt, alloc, Question::Check(reading), new, progress);
+            report_on_said(alloc, as_bundle, pieces.as_slice(), said)
+        }
+        Err(report) => report,
+    }
+}
+
 /// What the bundle with these lines says, if each of its profiles only takes away from an old one.
 fn new_contents<'a>(
     alloc: Global,
-    asked: Query<'a>,
     old: &BundleContents,
     pieces: &[Piece],
 ) -> Result<BundleContents, Report<'a>>
-    ensures mends { IfOk result
-        (MendsTextOf (reading_for (request_of asked.entry)) old.now pieces.now) }
-    ensures unmended { IfErr result (λ r. (r ≡ Report.OutOfMemory) ⊎ (r ≡ Report.NotMended)) }
+    ensures mends { IfOk result (form.MendsTextOf old.now pieces.now) }
+    ensures unmended { IfErr result form.IsUnmended }
 {
     let Ok(text) = mended_text(alloc, pieces) else {
         return Err(Report::OutOfMemory);
     };
-    match contents_in(alloc, asked, text) {
+    match own_contents(alloc, text) {
         Ok(new) => {
             if takes_away(old, &new) {
                 Ok(new)
@@ -94,8 +112,8 @@ fn new_contents<'a>(
 }
 
 /// The answer that no lines mend a bundle, where the bundle with lines has this one instead of what it says; or that memory is out.
-fn unmended<'a>(report: &Report<'_>) -> Report<'a>
-    ensures { (result ≡ Report.OutOfMemory) ⊎ (result ≡ Report.NotMended) }
+pub(crate) fn unmended<'a>(report: &Report<'_>) -> Report<'a>
+    ensures { form.IsUnmended result }
 {
     match report {
         Report::OutOfMemory => Report::OutOfMemory,
@@ -104,7 +122,7 @@ fn unmended<'a>(report: &Report<'_>) -> Report<'a>
 }
 
 /// Returns whether each profile only takes away from an old one, and the rules are the same.
-fn takes_away(old: &BundleContents, new: &BundleContents) -> bool
+pub(crate) fn takes_away(old: &BundleContents, new: &BundleContents) -> bool
     ensures profiles { result ≡ true → AllTakeAway old.now.profiles new.now.profiles }
     ensures rules { result ≡ true → new.now.rules ≡ old.now.rules }
 {
@@ -119,18 +137,13 @@ fn report_on_said<'a>(
     pieces: &[Piece],
     said: Report<'a>,
 ) -> Report<'a>
-    ensures told { HoldsIf pieces.now as_bundle (CheckTells said.entry) result }
+    ensures told { form.HoldsIf pieces.now as_bundle (form.CheckTells said.entry) result }
     ensures read { unread_by result ≡ None }
 {
     match said {
         Report::Verdict(verdict) => report_on_verdict(alloc, as_bundle, pieces, verdict),
         Report::Refused(line, refusal) => {
-            let told = told_of(pieces, Some(refusal));
-            report_with(alloc, as_bundle, pieces, line.as_str(), false, told)
-        }
-        Report::SameArchive(line, refusal) => {
-            let told = told_of(pieces, Some(refusal));
-            report_with(alloc, as_bundle, pieces, line.as_str(), false, told)
+            report_on_unsafe(alloc, as_bundle, pieces, line.as_str(), refusal)
         }
         Report::OutOfMemory => Report::OutOfMemory,
         _ => Report::NotMended,
@@ -144,7 +157,8 @@ fn report_on_verdict<'a>(
     pieces: &[Piece],
     verdict: Verdict,
 ) -> Report<'a>
-    ensures told { HoldsIf pieces.now as_bundle (CheckTells (Report.Verdict verdict)) result }
+    ensures told { form.HoldsIf pieces.now as_bundle
+        (form.CheckTells (Report.Verdict verdict)) result }
     ensures read { unread_by result ≡ None }
 {
     match verdict {
@@ -154,9 +168,9 @@ fn report_on_verdict<'a>(
 }
 
 /// The answer with these lines, if the bundle with them is safe.
-fn report_on_safe<'a>(alloc: Global, as_bundle: bool, pieces: &[Piece]) -> Report<'a>
-    ensures told { HoldsIf pieces.now as_bundle (λ reading new. IsSafeSet (members new)
-        × (archives_as reading new.profiles ≡ [])) result }
+pub(crate) fn report_on_safe<'a>(alloc: Global, as_bundle: bool, pieces: &[Piece]) -> Report<'a>
+    ensures told { form.HoldsWith pieces.now as_bundle true
+        (safe_line (line_count pieces.now)) result }
     ensures read { unread_by result ≡ None }
 {
     let Some(count) = line_count(pieces) else {
@@ -166,9 +180,24 @@ fn report_on_safe<'a>(alloc: Global, as_bundle: bool, pieces: &[Piece]) -> Repor
         Ok(line) => {
             let told = told_of(pieces, None);
             report_with(alloc, as_bundle, pieces, line.as_str(), true, told)
-        },
+        }
         Err(AllocError) => Report::OutOfMemory,
     }
+}
+
+/// The answer with these lines, if the bundle with them is refused with this line.
+pub(crate) fn report_on_unsafe<'a>(
+    alloc: Global,
+    as_bundle: bool,
+    pieces: &[Piece],
+    line: &str,
+    refusal: Refusal,
+) -> Report<'a>
+    ensures told { form.HoldsWith pieces.now as_bundle false line.now result }
+    ensures read { unread_by result ≡ None }
+{
+    let told = told_of(pieces, Some(refusal));
+    report_with(alloc, as_bundle, pieces, line, false, told)
 }
 
 /// The answer with these lines and with what is said of the bundle with them, which is safe or not.
@@ -180,8 +209,7 @@ fn report_with<'a>(
     safe: bool,
     told: ToldMended,
 ) -> Report<'a>
-    ensures told { HoldsIf pieces.now as_bundle
-        (λ reading new. SaysOfMended reading safe new pieces.now line.now) result }
+    ensures told { form.HoldsWith pieces.now as_bundle safe line.now result }
     ensures read { unread_by result ≡ None }
 {
     match text_with(alloc, as_bundle, pieces, line) {

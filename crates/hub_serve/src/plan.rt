@@ -1,16 +1,16 @@
-//! Plans of Unison's runs.
-ghost use Rattle.std.specs.Prelude.{◌≡◌, List, None, IfErr, IfOk};
+//! Plans of Unison's runs, and what else is asked where a faulty profile keeps no other from being read.
+ghost use Rattle.std.specs.Prelude.{◌≡◌, true, None, IfErr, IfOk};
 ghost use Rattle.hub_apart.specs.UnisonLines as unison;
 ghost use Rattle.hub_cert.specs.Set.{Members};
-ghost use Rattle.hub_cli.specs.Words.{planned};
-ghost use Rattle.hub_profile.specs.Parts.{Parts};
-ghost use Rattle.hub_profile.specs.declared.rule.Rule.{Rule as FileRule};
-ghost use Rattle.hub_report.specs.Report.{unread_by};
+ghost use Rattle.hub_report.specs.Report.{has_no_numbers, unread_by};
 ghost use Rattle.hub_serve.specs.Plans as plans;
 ghost use Rattle.hub_serve.specs.Told as told;
 ghost use Rattle.hub_serve.specs.forms.Planning as planning;
+ghost use Rattle.hub_serve.specs.declared.plan_question.PlanQuestion.TheVariants as question;
 
+use crate::alone::report_on_rounds_alone;
 use crate::answer::bad_bundle;
+use crate::plan_question::PlanQuestion;
 use crate::reading::counted_as;
 use crate::taken::{Taken, taken_of};
 use hub_apart::laws::{
@@ -26,25 +26,25 @@ use hub_text::Items;
 use hub_unison::shared_archives;
 use std::alloc::{AllocError, Global};
 
-/// The answer with a plan of Unison's runs by the profiles of an input's bytes. A profile that can't be read is in it: it runs
-/// alone, or is refused beside rules, since it may break one.
-pub fn report_on_plan<'a>(alloc: Global, bytes: Vec<u8>) -> Report<'a>
-    ensures holds { told.Holds planned bytes.items result }
+/// The answer with a plan of Unison's runs by the profiles of an input's bytes, or with rounds of those that can be read. One that
+/// can't be read is in it: it runs alone. Beside rules a plan refuses it, since it may break one.
+pub(crate) fn report_on_plan<'a>(alloc: Global, asked: PlanQuestion, bytes: Vec<u8>) -> Report<'a>
+    ensures holds { told.Holds (plans.plan_request asked) bytes.items result }
     ensures read { unread_by result ≡ None }
 {
     match counted_as(alloc, Reading::Unison, bytes) {
-        Ok(counted) => report_on_counted(alloc, counted),
+        Ok(counted) => report_on_counted(alloc, asked, counted),
         Err(AllocError) => Report::OutOfMemory,
     }
 }
 
-/// The answer with a plan by these lines of an input, which count.
-fn report_on_counted<'a>(alloc: Global, counted: Vec<u8>) -> Report<'a>
-    ensures planned { planning.OfCounted counted.items result }
+/// The answer to what is asked by these lines of an input, which count.
+fn report_on_counted<'a>(alloc: Global, asked: PlanQuestion, counted: Vec<u8>) -> Report<'a>
+    ensures planned { planning.OfCounted asked counted.items result }
     ensures read { unread_by result ≡ None }
 {
     match taken_in(alloc, counted) {
-        Ok(taken) => report_on_taken(alloc, taken),
+        Ok(taken) => report_on_taken(alloc, asked, taken),
         Err(report) => report,
     }
 }
@@ -66,9 +66,9 @@ fn taken_in<'a>(alloc: Global, counted: Vec<u8>) -> Result<Taken, Report<'a>>
     }
 }
 
-/// The answer with the plan of these profiles and rules.
-fn report_on_taken<'a>(alloc: Global, taken: Taken) -> Report<'a>
-    ensures planned { planning.OfTaken taken result }
+/// The answer to what is asked of these profiles and rules.
+fn report_on_taken<'a>(alloc: Global, asked: PlanQuestion, taken: Taken) -> Report<'a>
+    ensures planned { planning.OfTaken asked taken result }
     ensures read { unread_by result ≡ None }
 {
     let Taken {
@@ -77,20 +77,40 @@ fn report_on_taken<'a>(alloc: Global, taken: Taken) -> Report<'a>
         rules,
     } = taken;
     match shared_archives(alloc, profiles.as_slice()) {
-        Ok(archives) => report_on_made(alloc, &roster, profiles, rules, archives.as_slice()),
+        Ok(archives) => {
+            report_on_made(alloc, asked, &roster, profiles, rules, archives.as_slice())
+        }
         Err(AllocError) => Report::OutOfMemory,
     }
 }
 
-/// The answer with the plan of these profiles and rules, where these pairs share an archive.
+/// The answer to what is asked of these profiles and rules, where these pairs share an archive.
 fn report_on_made<'a>(
+    alloc: Global,
+    asked: PlanQuestion,
+    roster: &Roster,
+    profiles: Items<Profile>,
+    rules: Rules,
+    archives: &[(usize, usize)],
+) -> Report<'a>
+    ensures planned { planning.OfMade asked roster.now profiles rules archives.now result }
+    ensures read { unread_by result ≡ None }
+{
+    match asked {
+        PlanQuestion::Plan => report_on_planned(alloc, roster, profiles, rules, archives),
+        PlanQuestion::Rounds => report_on_rounds_alone(alloc, roster, profiles, rules, archives),
+    }
+}
+
+/// The answer with the plan of these profiles and rules, where these pairs share an archive.
+fn report_on_planned<'a>(
     alloc: Global,
     roster: &Roster,
     profiles: Items<Profile>,
     rules: Rules,
     archives: &[(usize, usize)],
 ) -> Report<'a>
-    ensures planned { planning.OfMade roster.now profiles rules archives.now result }
+    ensures planned { planning.OfMade question.Plan roster.now profiles rules archives.now result }
     ensures read { unread_by result ≡ None }
 {
     match lines_of(alloc, profiles, rules) {
@@ -110,9 +130,9 @@ fn lines_of(alloc: Global, profiles: Items<Profile>, rules: Rules) -> Result<Apa
 }
 
 /// The answer that these profiles can't be searched, because of that fault.
-fn refused<'a>(alloc: Global, fault: &CheckFault) -> Report<'a>
-    ensures told { (S : Members) (Ps : List Parts) (Rs : List FileRule)
-        → unison.IsRefusedInUnison Ps Rs fault.now → planning.TellsUnplanned S fault.now result }
+pub(crate) fn refused<'a>(alloc: Global, fault: &CheckFault) -> Report<'a>
+    ensures told { (S : Members) → has_no_numbers fault.now ≡ true
+        → planning.TellsUnplanned S fault.now result }
     ensures read { unread_by result ≡ None }
 {
     match Report::refusal_without_set(alloc, fault) {

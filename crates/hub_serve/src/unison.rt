@@ -2,6 +2,7 @@
 ghost use Rattle.std.specs.Prelude.{◌≡◌, None, IfErr, IfOk, OnOk, option_map};
 ghost use Rattle.std.specs.List.{list_any};
 ghost use Rattle.hub_apart.specs.Apart.{are_namesakes};
+ghost use Rattle.hub_apart.specs.UnisonLines as unison;
 ghost use Rattle.hub_cert.specs.Set.{Members};
 ghost use Rattle.hub_profile.specs.Parts.{Parts};
 ghost use Rattle.hub_profile.specs.declared.rule.Rule.{Rule as FileRule};
@@ -87,6 +88,18 @@ fn found_of(alloc: Global, profiles: Items<Profile>, rules: Rules) -> Result<Apa
     ensures refused { IfErr result (spec.IsUnsearchable profiles rules) }
 {
     check_names(profiles.as_slice())?;
+    searched_by_writer(alloc, profiles, rules)
+}
+
+/// The lines of these profiles and rules in Unison, by who writes.
+pub(crate) fn searched_by_writer(
+    alloc: Global,
+    profiles: Items<Profile>,
+    rules: Rules,
+) -> Result<Apart, CheckFault>
+    ensures found { IfOk result (said.IsSearchedOf profiles rules) }
+    ensures refused { IfErr result (unison.IsRefusedInUnison profiles rules) }
+{
     lines_show_unsafe_parts();
     rounds_without_lines_are_safe_in_unison();
     Ok(lines_in_unison(alloc, profiles, rules)?.by_writer()?)

@@ -153,7 +153,11 @@ fn report_on_cut<'a>(alloc: Global, archives: &[(usize, usize)], found: Apart) -
 }
 
 /// Cuts profiles into rounds by their lines, and by the archives that two of them share.
-fn cut_of(alloc: Global, archives: &[(usize, usize)], found: Apart) -> Result<Cut, AllocError>
+pub(crate) fn cut_of(
+    alloc: Global,
+    archives: &[(usize, usize)],
+    found: Apart,
+) -> Result<Cut, AllocError>
     ensures { IfOk result (said.IsCutOf archives.now found) }
 {
     let found = found.with_pairs(archives)?;

@@ -49,8 +49,13 @@ HoldsOfProfiles q Ps Rs archives r =
     (own : BundleContents) → own.profiles ≡ Ps → own.rules ≡ Rs → archives ≡ shared_pairs Ps
     → HoldsOfOwn q own r
 
--- These are the readings of profiles beside rules, the rules, and their lines. No two profiles have one
--- name.
+-- These are the readings of profiles beside rules, the rules, and their lines;
+pub record IsSearchedOf (Ps : List Parts) (Rs : List Rule) (found : Apart) : Type 0 where
+  pub profiles : found.profiles ≡ beside Rs Ps
+  pub rules : found.rules ≡ Rs
+  pub lines : AreFoundInUnison Ps Rs found.lines
+
+-- and no two profiles have one name.
 pub record IsFoundOf (Ps : List Parts) (Rs : List Rule) (found : Apart) : Type 0 where
   pub profiles : found.profiles ≡ beside Rs Ps
   pub rules : found.rules ≡ Rs

@@ -1,13 +1,9 @@
 use Rattle.std.proofs.Common.{◌∙◌, ap, sym}
 use Rattle.hub_serve.specs.InUnison.{namesake}
-use Rattle.hub_serve.proofs.UnisonFound.{by-writer-found}
+use Rattle.hub_serve.proofs.UnisonFound.{named-found}
 use Rattle.hub_serve.proofs.unison.found_of.Goals as goal
 
 pub returns-clause-found : goal.returns-clause-found
 returns-clause-found c =
-    let rounds = c.rounds_without_lines_are_safe_in_unison.ensures in
-    let searched = c.in_ok-lines_in_unison.ensures in
-    let sorted = c.in_ok-by_writer.ensures in
-    by-writer-found rounds.anywhere rounds.safe rounds.kept c.lines_show_unsafe_parts.ensures c.args.profiles c.args.rules _ _
-    searched.valid searched.readings searched.rules searched.lines sorted.profiles sorted.rules sorted.lines sorted.order
-    (ap namesake (sym c.as_slice.ensures) ∙ c.in_ok-check_names.ensures.different)
+    named-found c.args.profiles c.args.rules c.searched_by_writer.result
+    (ap namesake (sym c.as_slice.ensures) ∙ c.in_ok-check_names.ensures.different) c.searched_by_writer.ensures.found

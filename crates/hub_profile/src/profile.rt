@@ -1,4 +1,4 @@
-ghost use Rattle.std.specs.Prelude.{◌≡◌, Some, IsTrue};
+ghost use Rattle.std.specs.Prelude.{◌≡◌, [], ◌∷◌, Some, IfOk, IsTrue};
 
 use crate::bars::Bars;
 use crate::partial::Partial;
@@ -6,6 +6,7 @@ use crate::protection::Protected;
 use hub_glob::PathSpec;
 use hub_path::{Name, RelPath, Root, Side};
 use hub_text::{Exact, Items};
+use std::alloc::{AllocError, Global};
 use std::marker::Model;
 
 /// A profile: which roots it synchronizes, and what of them (Unison manual, "Preferences").
@@ -34,7 +35,7 @@ impl Model for Profile {
 }
 
 impl Profile {
-    ghost use Rattle.hub_profile.specs.Facts.{are_kept};
+    ghost use Rattle.hub_profile.specs.Facts.{are_kept, are_roots};
     ghost use Rattle.hub_profile.specs.Parts.{IsProfile, at_side, has_root};
 
     /// The profile's name.
@@ -147,6 +148,41 @@ impl Profile {
     {
         self.paths = paths;
         self
+    }
+
+    /// The profile with these roots in place of its own.
+    pub fn with_roots(mut self, roots: [Root; 2]) -> Profile
+        requires { IsTrue (are_roots roots) }
+        ensures { result ≡ record self { roots = roots } }
+    {
+        self.roots = roots;
+        self
+    }
+
+    /// A copy of the profile that keeps the whole replica, ignores nothing, and has no bars on paths.
+    pub fn bare_copy(&self, alloc: Global) -> Result<Profile, AllocError>
+        ensures { IfOk result (λ p. p ≡ record self.now {
+          paths = [] ∷ [];
+          ignore = [];
+          ignorenot = [];
+          partial = [];
+        }) }
+    {
+        let mut paths = Items::new(alloc);
+        paths.push(RelPath::top(alloc))?;
+        Ok(Profile {
+            name: self.name.copy()?,
+            roots: [self.roots[0].copy()?, self.roots[1].copy()?],
+            paths,
+            ignore: Items::new(alloc),
+            ignorenot: Items::new(alloc),
+            protected: Protected {
+                force: self.protected.force,
+                prefer: self.protected.prefer,
+                bars: self.protected.bars,
+                partial: Items::new(alloc),
+            },
+        })
     }
 
     /// The profile with these bars on its whole roots in place of its own.

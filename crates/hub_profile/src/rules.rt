@@ -56,14 +56,14 @@ impl Rules {
     }
 
     /// Returns whether there are as many rules as there may be.
-    pub(crate) fn is_full(&self) -> bool
+    pub fn is_full(&self) -> bool
         ensures { result ≡ nat_le RULES (length self.now) }
     {
         self.rules.len() >= RULES
     }
 
-    /// Appends a rule.
-    pub(crate) fn push(&mut self, rule: Rule) -> Result<(), AllocFailed<Rule>>
+    /// Appends a rule. If it is out of memory, the error gives the rule back.
+    pub fn push(&mut self, rule: Rule) -> Result<(), AllocFailed<Rule>>
         requires { length self.now < RULES }
         ensures { OnOk result (self.new ≡ self.old ++ rule ∷ []) }
     {

@@ -10,14 +10,14 @@ use Rattle.hub_glob.specs.Specification.{Specification}
 use Rattle.hub_profile.specs.Facts.{are_kept}
 use Rattle.hub_profile.specs.Parts.{Parts}
 use Rattle.hub_profile.specs.declared.draft.TheConstants.{PATTERN_LINES}
-use Rattle.hub_unison.specs.ReadingOf.{IsWithinLines, topmost}
+use Rattle.hub_unison.specs.ReadingOf.{topmost}
 use Rattle.hub_folded.specs.Fold.{Folding, IsTextual, fold_path, knows_path, is_upper, latin, lower}
 use Rattle.hub_folded.specs.Ranges.{ranges}
 use Rattle.hub_folded.specs.Row.{Range, Row}
 use Rattle.hub_folded.specs.Rows.{rows}
 use Rattle.hub_folded.specs.Table.{by_rows, folding_by, has_row, in_ranges, is_ascii, unicode}
 use Rattle.hub_folded.specs.declared.member.Member.{Member}
-use Rattle.hub_folded.specs.Lines.{are_over, fold_spec, folded, folded_member, folded_paths, folded_specs, folded_tops, highest, knows_line, may_ignore, spread, top_of}
+use Rattle.hub_folded.specs.Lines.{are_over, fold_spec, folded, folded_member, folded_paths, folded_specs, folded_tops, highest, knows_line, may_ignore, spread, top_of, IsWithinLines}
 use Rattle.hub_folded.proofs.Paths.{no}
 
 -- What a lower letter is.

@@ -1,5 +1,5 @@
 -- The lines of profiles, folded: a reading that comes before all others.
-use Rattle.std.specs.Prelude.{ℕ, Bool, true, false, not, ◌&&◌, ◌||◌, ◌==◌, nat_lt, List, [], ◌∷◌, ◌++◌, map, codes, Option, Some, None, if◌then◌else◌}
+use Rattle.std.specs.Prelude.{ℕ, ◌+◌, ◌≤◌, Bool, true, false, not, ◌&&◌, ◌||◌, ◌==◌, nat_lt, List, [], ◌∷◌, ◌++◌, length, map, codes, Option, Some, None, if◌then◌else◌}
 use Rattle.std.specs.List.{list_any, list_all, filter, flat_map}
 use Rattle.hub_path.specs.Path.{Path, is_over}
 use Rattle.hub_glob.specs.declared.piece.Piece.{Piece}
@@ -10,6 +10,7 @@ use Rattle.hub_glob.specs.contracts.path_spec.PathSpecPartialEq.TheImpl as teste
 use Rattle.hub_glob.specs.Glob.{choices}
 use Rattle.hub_glob.specs.Specification.{Specification}
 use Rattle.hub_glob.specs.Writing.{spec_text}
+use Rattle.hub_profile.specs.declared.draft.TheConstants.{PATTERN_LINES}
 use Rattle.hub_profile.specs.Facts.{are_kept}
 use Rattle.hub_profile.specs.Parts.{Parts, some_passes}
 use Rattle.hub_profile.specs.declared.partial.Partial.{Partial}
@@ -167,6 +168,10 @@ spread F P = record P { paths = folded_tops F P.paths; ignore = []; ignorenot = 
 
 abbrev pub folded_member : Folding → Member → Parts
 folded_member F M = if M.folds then folded F M.parts else spread F M.parts
+
+-- The profile has no more `ignore` and `ignorenot` lines than may be read.
+abbrev pub IsWithinLines : Parts → Type 0
+IsWithinLines P = length P.ignore + length P.ignorenot ≤ PATTERN_LINES
 
 -- The profiles of a set, folded if some host's names fold; and the rules.
 abbrev pub some_fold : List Member → Bool

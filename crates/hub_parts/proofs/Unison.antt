@@ -11,7 +11,7 @@ use Rattle.hub_profile.specs.declared.rule.Rule.{Rule}
 use Rattle.hub_reach.specs.Safe.{Breach, IsSafe, all_roots, share_archive}
 use Rattle.hub_unison.specs.Matching.{IsMatching, Matching, widened}
 use Rattle.hub_unison.specs.Cautious.{has_star, with_patterns, with_tops}
-use Rattle.hub_unison.specs.ReadingOf.{all_kept, cautious_of, kept_bars, reading_of, spare_stays, top_values, with_kept}
+use Rattle.hub_unison.specs.ReadingOf.{cautious_of, each_kept, kept_bars, reading_of, spare_stays, top_values, with_kept}
 use Rattle.hub_unison.specs.Rules.{IsReadingOf, KeepsRulesInUnison, UnisonBreach, forbidden}
 use Rattle.hub_unison.specs.Shared.{ShareNoArchive}
 use Rattle.hub_unison.specs.UnisonReach.{AreCautious, IsCautious, IsSafeInUnison, UnisonClash, written_roots}
@@ -135,7 +135,7 @@ cautious-roots : (P : Parts) → (cautious_of P).roots ≡ P.roots
 cautious-roots P = go (has_star P) (list_all spare_stays P.ignorenot)
   where
     go : (a b : Bool) → (if a then with_tops P (top_values P.paths) (kept_bars P.partial)
-        else (if b then with_kept P (all_kept P.ignore (map widened P.ignorenot)) (map widened P.ignorenot) (kept_bars P.partial)
+        else (if b then with_kept P (each_kept P.ignore (map widened P.ignorenot)) (map widened P.ignorenot) (kept_bars P.partial)
         else with_patterns P [] [] (kept_bars P.partial))).roots ≡ P.roots
     go true b = refl
     go false true = refl

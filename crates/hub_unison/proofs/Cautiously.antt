@@ -9,7 +9,7 @@ use Rattle.hub_profile.specs.Parts.{Parts}
 use Rattle.hub_unison.specs.Cautious.{has_star, with_patterns, with_tops}
 use Rattle.hub_unison.specs.Kept.{own_lines, spare_lines}
 use Rattle.hub_unison.specs.Matching.{widened}
-use Rattle.hub_unison.specs.ReadingOf.{all_kept, cautious_of, kept_bars, spare_stays, top_values, with_kept}
+use Rattle.hub_unison.specs.ReadingOf.{cautious_of, each_kept, kept_bars, spare_stays, top_values, with_kept}
 use Rattle.hub_unison.proofs.KeptLines.{none-if, some-if}
 
 module _ (P C : Parts) (ignore ignorenot : List Specification) (bars partial : List Partial)
@@ -19,7 +19,7 @@ module _ (P C : Parts) (ignore ignorenot : List Specification) (bars partial : L
   reading a b =
       if a then with_tops P (top_values P.paths) (kept_bars P.partial)
       else (if b
-      then with_kept P (all_kept P.ignore (map widened P.ignorenot)) (map widened P.ignorenot) (kept_bars P.partial)
+      then with_kept P (each_kept P.ignore (map widened P.ignorenot)) (map widened P.ignorenot) (kept_bars P.partial)
       else with_patterns P [] [] (kept_bars P.partial))
 
   own : partial ≡ kept_bars P.partial
@@ -42,14 +42,14 @@ module _ (P C : Parts) (ignore ignorenot : List Specification) (bars partial : L
         (λ i. reading ((sym is ∙ starred) i) ((sym h ∙ ap (list_all spare_stays) not_are) i))
 
     pub by-lines : (spared old : List Specification) → o ≡ Some spared → old ≡ P.ignore
-        → ignore ≡ flat_map own_lines (all_kept old spared)
-        → ignorenot ≡ spared ++ flat_map spare_lines (all_kept old spared)
+        → ignore ≡ flat_map own_lines (each_kept old spared)
+        → ignorenot ≡ spared ++ flat_map spare_lines (each_kept old spared)
         → C ≡ cautious_of P
     by-lines spared old some lines stay added =
         let two = some-if (list_all spare_stays oldnot) (map widened oldnot) spared o some spares in
         let same : spared ≡ map widened P.ignorenot = two.1 ∙ ap (map widened) not_are in
         e ∙ ((λ i. with_patterns P (stay i) (added i) (own i))
-        ∙ ((λ i. with_kept P (all_kept (lines i) (same i)) (same i) (kept_bars P.partial)) ∙ at true two.0))
+        ∙ ((λ i. with_kept P (each_kept (lines i) (same i)) (same i) (kept_bars P.partial)) ∙ at true two.0))
 
     pub by-none : o ≡ None → ignore ≡ [] → ignorenot ≡ [] → C ≡ cautious_of P
     by-none none one two =

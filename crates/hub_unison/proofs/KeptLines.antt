@@ -1,10 +1,10 @@
 -- What stays of the lines of a profile, one by one.
-use Rattle.std.proofs.Common.{◌≡◌, ◌<◌, ◌+◌, ◌-◌, ℕ, suc, zero, arith, Bool, true, false, not, ◌&&◌, ◌||◌, List, [], ◌∷◌, ◌++◌, cond, length, map, take, get_or, Option, Some, None, refl, sym, ap, ◌∙◌, append-nil, append_assoc}
+use Rattle.std.proofs.Common.{◌≡◌, ◌<◌, ◌+◌, ℕ, suc, zero, arith, Bool, true, false, not, ◌&&◌, ◌||◌, List, [], ◌∷◌, ◌++◌, cond, length, map, take, get_or, Option, Some, None, refl, sym, ap, ◌∙◌, append-nil, append_assoc}
 use Rattle.std.specs.Prelude.{if◌then◌else◌}
 use Rattle.std.specs.List.{filter, list_all}
 use Rattle.std.proofs.Math.Bool.{and-false}
 use Rattle.std.proofs.lemmas.Bool.{and_from}
-use Rattle.std.proofs.lemmas.List.{length-append, length-take-le, map_more, take_more}
+use Rattle.std.proofs.lemmas.List.{length-take-le, map_more, take_more}
 use Rattle.std.proofs.lemmas.List.Folds.{list_all-append}
 use Rattle.std.proofs.lemmas.List.Elements.{filter_more}
 use Rattle.hub_glob.specs.declared.path_spec.Kind.{Kind}
@@ -15,7 +15,7 @@ use Rattle.hub_glob.specs.Specification.{Specification}
 use Rattle.hub_profile.specs.declared.partial.Partial.{Partial}
 use Rattle.hub_unison.specs.declared.kept.Kept.TheVariants.{Nothing, Cut, Alone, Sparing}
 use Rattle.hub_unison.specs.declared.kept.Kept.{Kept}
-use Rattle.hub_unison.specs.Kept.{cut_from, fitting, is_alone, is_cut, taken, within}
+use Rattle.hub_unison.specs.Kept.{cut_from, is_cut}
 use Rattle.hub_unison.specs.Matching.{all_known, all_simple, star_for, starred, widened}
 use Rattle.hub_unison.specs.ReadingOf.{bar_stays, has_spares, is_read_back, line_kept, line_stays, read_back, spare_of, spare_stays}
 use Rattle.hub_unison.specs.laws.Spare.{all-known}
@@ -122,7 +122,7 @@ pub spare-at : (s : Specification) (k : Kind) (ds : List (List Piece)) (o : Opti
 spare-at s k ds o kind are e =
     e ∙ (λ i. read_back (record { kind = kind i; pattern = Brace (are i) ∷ [] }))
 
--- One item more.
+-- One item more that is left out.
 module _ {X : Type 0} (p : X → Bool) (xs : List X) (i : ℕ) (x : X) where
   pub filter-gone : i < length xs → x ≡ get_or xs i x → p x ≡ false
       → filter p (take i xs) ≡ filter p (take (i + 1) xs)
@@ -130,12 +130,6 @@ module _ {X : Type 0} (p : X → Bool) (xs : List X) (i : ℕ) (x : X) where
       sym (filter_more p xs i x l
       ∙ ((λ j. filter p (take i xs) ++ cond ((ap p (sym e) ∙ h) j) (get_or xs i x ∷ []) [])
       ∙ append-nil (filter p (take i xs))))
-
-  pub filter-kept : i < length xs → x ≡ get_or xs i x → p x ≡ true
-      → filter p (take i xs) ++ x ∷ [] ≡ filter p (take (i + 1) xs)
-  filter-kept l e h =
-      sym (filter_more p xs i x l
-      ∙ (λ j. filter p (take i xs) ++ cond ((ap p (sym e) ∙ h) j) (sym e j ∷ []) []))
 
 -- Whether a bar stays.
 pub bar-unsure : (b : Partial) → is_plain b.spec.pattern ≡ false → bar_stays b ≡ false
@@ -180,52 +174,7 @@ pub mapped-more : {X Y : Type 0} (f : X → Y) (xs : List X) (i : ℕ) (x : X) (
 mapped-more f xs i x y old new l e before same more =
     more ∙ ((λ j. before j ++ (same ∙ ap f e) j ∷ []) ∙ sym (map_more f xs i x l))
 
--- What fits of one more, and the room that is left.
-abbrev pub room_after : ℕ → List Kept → ℕ
-room_after room [] = room
-room_after room (k ∷ ks) = room_after (room - taken (within room k)) ks
-
-room-push : (room : ℕ) (ks : List Kept) (k : Kept)
-    → room_after room (ks ++ k ∷ []) ≡ room_after room ks - taken (within (room_after room ks) k)
-room-push room [] k = refl
-room-push room (j ∷ ks) k = room-push (room - taken (within room j)) ks k
-
-fitting-push : (room : ℕ) (ks : List Kept) (k : Kept)
-    → fitting room (ks ++ k ∷ []) ≡ fitting room ks ++ within (room_after room ks) k ∷ []
-fitting-push room [] k = refl
-fitting-push room (j ∷ ks) k =
-    ap (λ js. within room j ∷ js) (fitting-push (room - taken (within room j)) ks k)
-
-pub fits-more : (room left : ℕ) (ks : List Kept) (k fit : Kept) (old new : List Kept)
-    → left ≡ room_after room ks → old ≡ fitting room ks → fit ≡ within left k → new ≡ old ++ fit ∷ []
-    → new ≡ fitting room (ks ++ k ∷ [])
-fits-more room left ks k fit old new is before same more =
-    more ∙ ((λ j. before j ++ (same ∙ ap (λ n. within n k) is) j ∷ []) ∙ sym (fitting-push room ks k))
-
-pub room-more : (room left next : ℕ) (ks : List Kept) (k fit : Kept) → left ≡ room_after room ks
-    → fit ≡ within left k → next ≡ left - taken fit → next ≡ room_after room (ks ++ k ∷ [])
-room-more room left next ks k fit is same less =
-    less ∙ ((λ j. is j - taken ((same ∙ ap (λ n. within n k) is) j)) ∙ sym (room-push room ks k))
-
-pub room-one : (most some : ℕ) (xs : List Kept) (i : ℕ) (x : Kept) (old new : ℕ) → i < length xs
-    → x ≡ get_or xs i x → old ≡ most - (some + length (filter is_alone (take i xs)))
-    → new ≡ old - (if is_alone x then 1 else 0)
-    → new ≡ most - (some + length (filter is_alone (take (i + 1) xs)))
-room-one most some xs i x old new l e before less = go (is_alone x) refl less
-  where
-    go : (b : Bool) → is_alone x ≡ b → new ≡ old - (if b then 1 else 0)
-        → new ≡ most - (some + length (filter is_alone (take (i + 1) xs)))
-    go true h less =
-        let one : length (filter is_alone (take i xs) ++ x ∷ []) ≡ length (filter is_alone (take (i + 1) xs)) =
-        ap length (filter-kept is_alone xs i x l e h) in
-        let two = length-append (filter is_alone (take i xs)) (x ∷ []) in
-        omega (arith, before, less, one, two)
-    go false h less =
-        let same : length (filter is_alone (take i xs)) ≡ length (filter is_alone (take (i + 1) xs)) =
-        ap length (filter-gone is_alone xs i x l e h) in
-        omega (arith, before, less, same)
-
--- The lines of which nothing is kept for a limit.
+-- The lines of which nothing is kept since a pattern would be too long.
 cut-push : (at : ℕ) (ks : List Kept) (k : Kept)
     → cut_from at (ks ++ k ∷ []) ≡ cut_from at ks
     ++ (if is_cut k then (at + length ks) ∷ [] else [])

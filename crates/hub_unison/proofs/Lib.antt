@@ -1,5 +1,6 @@
 pub mod BesideRules
 pub mod Cautiously
+pub mod IgnoringMore
 pub mod KeptLines
 pub mod LastName
 pub mod ReadBack

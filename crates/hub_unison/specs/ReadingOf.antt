@@ -1,5 +1,5 @@
 -- The readings of profiles, as functions of these.
-use Rattle.std.specs.Prelude.{ℕ, ◌+◌, ◌-◌, ◌≤◌, Bool, not, ◌&&◌, ◌||◌, ◌==◌, nat_lt, List, [], ◌∷◌, ◌++◌, length, map, Option, Some, None, if◌then◌else◌}
+use Rattle.std.specs.Prelude.{ℕ, Bool, not, ◌&&◌, ◌||◌, ◌==◌, nat_lt, List, [], ◌∷◌, ◌++◌, length, map, Option, Some, None, if◌then◌else◌, IsTrue}
 use Rattle.std.specs.List.{list_any, list_all, filter, fold, flat_map}
 use Rattle.hub_path.specs.Path.{Path, is_over, parent, path_eq}
 use Rattle.hub_glob.specs.declared.piece.Part.TheVariants.{Brace}
@@ -10,10 +10,10 @@ use Rattle.hub_glob.specs.Writing.{spec_text}
 use Rattle.hub_profile.specs.declared.partial.Partial.{Partial}
 use Rattle.hub_profile.specs.declared.rule.Rule.{Rule}
 use Rattle.hub_profile.specs.Facts.{are_kept}
-use Rattle.hub_profile.specs.declared.draft.TheConstants.{PATTERN_LINES}
 use Rattle.hub_profile.specs.Parts.{Parts, some_passes}
+use Rattle.hub_reach.specs.Reach.{reach, write}
 use Rattle.hub_unison.specs.Cautious.{cover, has_star, with_patterns, with_tops}
-use Rattle.hub_unison.specs.Kept.{own_lines, spare_lines, is_alone, fitting, cut_from}
+use Rattle.hub_unison.specs.Kept.{own_lines, spare_lines, cut_from}
 use Rattle.hub_unison.specs.Lines.{spelled}
 use Rattle.hub_unison.specs.Matching.{all_simple, all_known, widened}
 use Rattle.hub_unison.specs.Rules.{for_rules}
@@ -72,16 +72,9 @@ needed ss spared (Alone s) = Alone s
 needed ss spared (Sparing s spare) =
     if is_owned ss spare || is_among spared spare then Alone s else Sparing s spare
 
--- What is kept of the `ignore` lines beside these `ignorenot` lines. Those that need no other line stay
--- anyway, and of the others the first ones, as long as there are no more than PATTERN_LINES.
+-- What is kept of each of the `ignore` lines beside the others and these `ignorenot` lines.
 abbrev pub each_kept : List Specification → List Specification → List Kept
 each_kept ss spared = map (λ s. needed ss spared (line_kept s)) ss
-
-abbrev pub room_beside : List Specification → List Kept → ℕ
-room_beside spared ks = PATTERN_LINES - (length spared + length (filter is_alone ks))
-
-abbrev pub all_kept : List Specification → List Specification → List Kept
-all_kept ss spared = fitting (room_beside spared (each_kept ss spared)) (each_kept ss spared)
 
 -- An `ignorenot` line can stay, or one with stars in its place, if it is known what Unison matches by it
 -- at most.
@@ -130,14 +123,14 @@ abbrev pub cautious_of : Parts → Parts
 cautious_of P =
     if has_star P then with_tops P (top_values P.paths) (kept_bars P.partial)
     else (if list_all spare_stays P.ignorenot
-    then with_kept P (all_kept P.ignore (map widened P.ignorenot)) (map widened P.ignorenot) (kept_bars P.partial)
+    then with_kept P (each_kept P.ignore (map widened P.ignorenot)) (map widened P.ignorenot) (kept_bars P.partial)
     else with_patterns P [] [] (kept_bars P.partial))
 
--- The numbers, from 0 on, of the `ignore` lines that it leaves out for a limit.
+-- The numbers, from 0 on, of the `ignore` lines that it leaves out since a pattern would be too long.
 abbrev pub lines_cut : Parts → List ℕ
 lines_cut P =
     if has_star P then []
-    else (if list_all spare_stays P.ignorenot then cut_from 0 (all_kept P.ignore (map widened P.ignorenot)) else [])
+    else (if list_all spare_stays P.ignorenot then cut_from 0 (each_kept P.ignore (map widened P.ignorenot)) else [])
 
 -- The reading of a profile beside rules.
 abbrev pub reading_of : List Rule → Parts → Parts
@@ -151,6 +144,11 @@ is_read_alike P =
     && list_all (λ s. is_read_back s && all_simple s.pattern) P.ignorenot
     && list_all bar_stays P.partial
 
--- The profile has no more `ignore` and `ignorenot` lines than may be read.
-abbrev pub IsWithinLines : Parts → Type 0
-IsWithinLines P = length P.ignore + length P.ignorenot ≤ PATTERN_LINES
+-- A profile with these `ignore` lines.
+abbrev pub with_ignored : Parts → List Specification → Parts
+with_ignored P ss = record P { ignore = ss }
+
+-- The new reading reaches, and writes at each root, no path that the old one doesn't.
+pub record IsNoWider (old new : Parts) : Type 0 where
+  pub reach : (p : Path) → IsTrue (reach new p) → IsTrue (reach old p)
+  pub write : (r p : Path) → IsTrue (write new r p) → IsTrue (write old r p)

@@ -1,5 +1,4 @@
 pub mod Cautious
-pub mod Limit
 pub mod Lines
 pub mod Pattern
 pub mod Piece

@@ -1,17 +1,17 @@
 //! What is kept of the lines of a profile.
-ghost use Rattle.std.specs.Prelude.{◌≡◌, ◌++◌, ◌-◌, map, length, IfOk, if◌then◌else◌, Some, None};
-ghost use Rattle.std.specs.List.{list_all, filter, flat_map};
+ghost use Rattle.std.specs.Prelude.{◌≡◌, ◌++◌, map, IfOk, if◌then◌else◌, Some, None};
+ghost use Rattle.std.specs.List.{list_all, flat_map};
 ghost use Rattle.hub_unison.specs.Kept as lines;
 ghost use Rattle.hub_unison.specs.Matching.{widened};
 ghost use Rattle.hub_unison.specs.ReadingOf as reading;
 
 use crate::owned::is_needless;
 use crate::simple::{is_known, is_simple};
-use crate::spare::{copy_of, spare_of};
+use crate::spare::{copy_of, spec_of_choices};
 use crate::spares::{is_plain, spares_of};
 use crate::stars::with_stars;
 use hub_glob::PathSpec;
-use hub_profile::{PATTERN_LINES, Partial};
+use hub_profile::Partial;
 use hub_text::Items;
 use std::alloc::{AllocError, Global};
 
@@ -20,7 +20,7 @@ use std::alloc::{AllocError, Global};
 pub(crate) enum Kept {
     /// Nothing: it isn't known what Unison matches at most.
     Nothing,
-    /// Nothing: a limit would be passed.
+    /// Nothing: its pattern, or that of its spares, would be too long.
     Cut,
     /// Its specification: Unison matches what hubsync has it match, or what hubsync has it match besides is spared anyway.
     Alone(PathSpec),
@@ -32,48 +32,11 @@ pub(crate) enum Kept {
 impl Kept {
     ghost use Rattle.hub_unison.specs.Kept as lines;
 
-    /// Returns whether it is a line without one for spares.
-    fn is_alone(&self) -> bool
-        ensures { result ≡ lines.is_alone self.now }
-    {
-        matches!(self, Kept::Alone(_))
-    }
-
-    /// Returns whether nothing is kept for a limit.
+    /// Returns whether nothing is kept since a pattern would be too long.
     fn is_cut(&self) -> bool
         ensures { result ≡ lines.is_cut self.now }
     {
         matches!(self, Kept::Cut)
-    }
-
-    /// What is left of it if those with a line for spares may take so many lines.
-    fn within(self, room: usize) -> Kept
-        ensures { result ≡ lines.within room self }
-    {
-        match self {
-            Kept::Nothing => Kept::Nothing,
-            Kept::Cut => Kept::Cut,
-            Kept::Alone(copy) => Kept::Alone(copy),
-            Kept::Sparing(copy, spare) => {
-                if room >= 2 {
-                    Kept::Sparing(copy, spare)
-                } else {
-                    Kept::Cut
-                }
-            }
-        }
-    }
-
-    /// How many lines it takes with one for spares.
-    fn taken(&self) -> usize
-        ensures { result ≡ lines.taken self.now }
-    {
-        match self {
-            Kept::Nothing => 0,
-            Kept::Cut => 0,
-            Kept::Alone(_) => 0,
-            Kept::Sparing(_, _) => 2,
-        }
     }
 }
 
@@ -120,7 +83,7 @@ fn kept_of(alloc: Global, spec: &PathSpec) -> Result<Kept, AllocError>
     if spares.is_empty() {
         return Ok(Kept::Alone(copy));
     }
-    match spare_of(alloc, spec.kind(), spares)? {
+    match spec_of_choices(alloc, spec.kind(), spares)? {
         Some(spare) => Ok(Kept::Sparing(copy, spare)),
         None => Ok(Kept::Cut),
     }
@@ -149,7 +112,7 @@ fn needed(
     }
 }
 
-/// Returns what is kept of each of these `ignore` lines beside the others and these `ignorenot` lines, if there is room.
+/// Returns what is kept of each of these `ignore` lines beside the others and these `ignorenot` lines.
 fn each_kept(
     alloc: Global,
     specs: &[PathSpec],
@@ -165,55 +128,6 @@ fn each_kept(
     Ok(each)
 }
 
-/// How many lines those with one for spares may take, besides these `ignorenot` lines and the lines without one.
-fn room_beside(spared: &[PathSpec], each: &[Kept]) -> usize
-    ensures { result ≡ reading.room_beside spared.now each.now }
-{
-    let mut room = PATTERN_LINES.saturating_sub(spared.len());
-    for kept in each {
-        room = room_without(kept, room);
-    }
-    room
-}
-
-/// The room without a line, if it has none for spares.
-fn room_without(kept: &Kept, room: usize) -> usize
-    ensures { result ≡ room - (if lines.is_alone kept.now then 1 else 0) }
-{
-    if kept.is_alone() {
-        room.saturating_sub(1)
-    } else {
-        room
-    }
-}
-
-/// Returns what is kept of these `ignore` lines, besides these `ignorenot` lines.
-fn all_kept(
-    alloc: Global,
-    specs: &[PathSpec],
-    spared: &[PathSpec],
-) -> Result<Items<Kept>, AllocError>
-    ensures { IfOk result (λ all. all ≡ reading.all_kept specs.now spared.now) }
-{
-    let each = each_kept(alloc, specs, spared)?;
-    let room = room_beside(spared, each.as_slice());
-    fitting(alloc, each, room)
-}
-
-/// What is kept of lines, where those with one for spares may take so many lines.
-fn fitting(alloc: Global, each: Items<Kept>, room: usize) -> Result<Items<Kept>, AllocError>
-    ensures { IfOk result (λ all. all ≡ lines.fitting room each) }
-{
-    let mut left = room;
-    let mut all = Items::new(alloc);
-    for kept in each.into_vec() {
-        let fit = kept.within(left);
-        left = left.saturating_sub(fit.taken());
-        all.push(fit)?;
-    }
-    Ok(all)
-}
-
 /// The lines of what is kept of these `ignore` lines, besides these `ignorenot` lines.
 pub(crate) fn kept_lines(
     alloc: Global,
@@ -221,12 +135,12 @@ pub(crate) fn kept_lines(
     spared: Items<PathSpec>,
 ) -> Result<Lines, AllocError>
     ensures ignore { IfOk result (λ l. l.ignore
-        ≡ flat_map lines.own_lines (reading.all_kept specs.now spared)) }
+        ≡ flat_map lines.own_lines (reading.each_kept specs.now spared)) }
     ensures ignorenot { IfOk result (λ l. l.ignorenot
-        ≡ spared ++ flat_map lines.spare_lines (reading.all_kept specs.now spared)) }
+        ≡ spared ++ flat_map lines.spare_lines (reading.each_kept specs.now spared)) }
 {
-    let all = all_kept(alloc, specs, spared.as_slice())?;
-    lines_of(alloc, all, spared)
+    let each = each_kept(alloc, specs, spared.as_slice())?;
+    lines_of(alloc, each, spared)
 }
 
 /// The lines of what is kept, besides these `ignorenot` lines.
@@ -244,17 +158,17 @@ fn lines_of(alloc: Global, all: Items<Kept>, spared: Items<PathSpec>) -> Result<
     Ok(kept_lines)
 }
 
-/// The numbers, from 0 on, of the `ignore` lines of which nothing is kept for a limit, besides these `ignorenot` lines.
+/// The numbers, from 0 on, of the `ignore` lines of which nothing is kept since a pattern would be too long.
 pub(crate) fn cut_lines(
     alloc: Global,
     specs: &[PathSpec],
     spared: &[PathSpec],
 ) -> Result<Vec<usize>, AllocError>
     ensures { IfOk result (λ v. v.items
-        ≡ lines.cut_from 0 (reading.all_kept specs.now spared.now)) }
+        ≡ lines.cut_from 0 (reading.each_kept specs.now spared.now)) }
 {
-    let all = all_kept(alloc, specs, spared)?;
-    cut_of(alloc, all.as_slice())
+    let each = each_kept(alloc, specs, spared)?;
+    cut_of(alloc, each.as_slice())
 }
 
 fn cut_of(alloc: Global, all: &[Kept]) -> Result<Vec<usize>, AllocError>
@@ -300,7 +214,7 @@ fn spared_line(alloc: Global, spec: &PathSpec) -> Result<Option<PathSpec>, Alloc
         return Ok(None);
     }
     let choices = with_stars(alloc, spec)?;
-    spare_of(alloc, spec.kind(), choices)
+    spec_of_choices(alloc, spec.kind(), choices)
 }
 
 /// Returns the partial bars that are sure to hold in Unison.

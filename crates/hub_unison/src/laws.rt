@@ -1,5 +1,5 @@
 //! What follows from cautious readings: each law is the contract of an empty function.
-ghost use Rattle.std.specs.Prelude.{◌≡◌, ◌≤◌, ℕ, List, [], length, map, true, Ok};
+ghost use Rattle.std.specs.Prelude.{◌≡◌, ◌≤◌, ℕ, List, [], ◌∷◌, ◌++◌, length, map, true, Ok};
 ghost use Rattle.hub_path.specs.Path.{Name};
 ghost use Rattle.hub_glob.specs.Readable.{IsReadable};
 ghost use Rattle.hub_glob.specs.Specification.{Specification};
@@ -8,8 +8,9 @@ ghost use Rattle.hub_profile.specs.Parts.{Parts};
 ghost use Rattle.hub_profile.specs.Reading.{profile_in};
 ghost use Rattle.hub_profile.specs.declared.rule.Rule.{Rule};
 ghost use Rattle.hub_reach.specs.Safe.{IsSafe};
+ghost use Rattle.hub_unison.specs.Kept.{spare_lines};
 ghost use Rattle.hub_unison.specs.Matching.{line_matches, IsMatching};
-ghost use Rattle.hub_unison.specs.ReadingOf.{is_read_back, reading_of, IsWithinLines};
+ghost use Rattle.hub_unison.specs.ReadingOf.{is_read_back, line_kept, reading_of, with_ignored, IsNoWider};
 ghost use Rattle.hub_unison.specs.Rules.{AreReadForUnison, KeepsRulesInUnison, forbidden};
 ghost use Rattle.hub_unison.specs.Shared.{ShareNoArchive, shared_pairs};
 ghost use Rattle.hub_unison.specs.UnisonReach.{IsSafeInUnison};
@@ -57,8 +58,13 @@ pub fn no_shared_pair_shares_no_archive()
     ensures { (Ps : List Parts) → shared_pairs Ps ≡ [] → ShareNoArchive Ps }
 {}
 
-/// A reading has at most as many `ignore` and `ignorenot` lines together as a profile may have, if its profile has.
-#[tactic(auto, using(crate::specs::laws::Limit::readings_within))]
-pub fn readings_are_within_the_limit()
-    ensures { (Rs : List Rule) (P : Parts) → IsWithinLines P → IsWithinLines (reading_of Rs P) }
+/// A line that only ignores more never makes a reading wider: with one more `ignore` line, wherever it stands among the
+/// others, the reading of a profile reaches and writes only what it did without. That holds of each line for which no
+/// `ignorenot` line is made: it is kept alone, or left out. A line with spares, as `Name *.tmp`, is outside this law, since
+/// its `ignorenot` line for `.tmp` holds for all `ignore` lines.
+pub fn ignoring_more_reaches_less()
+    ensures { (Rs : List Rule) (P : Parts) (before after : List Specification) (s : Specification)
+        → spare_lines (line_kept s) ≡ []
+        → IsNoWider (reading_of Rs (with_ignored P (before ++ after)))
+        (reading_of Rs (with_ignored P (before ++ s ∷ after))) }
 {}

@@ -1,10 +1,12 @@
 //! What Unison may do with a profile where it reads a line otherwise than hubsync.
 //!
 //! Unison 2.52 reads some lines of a profile otherwise than hubsync. [`cautious`] makes of a profile one that reaches and
-//! writes, for hubsync, at least what the first reaches and writes for Unison. [`read_set`] makes such readings of the profiles
-//! of a set; beside rules they are wider still. [`lines_cut`] says which lines are left out for a limit, and [`shared_archives`]
-//! which profiles have the same two roots. If the readings are a safe set, and no two have the same two roots, no two of the
-//! profiles clash in Unison, and by none of them Unison breaks a rule: see [`laws`].
+//! writes, for hubsync, at least what the first reaches and writes for Unison. [`read_set`] makes such readings of the
+//! profiles of a set; beside rules they are wider still. [`lines_cut`] says which lines are left out since a pattern would be
+//! too long, and [`shared_archives`] which profiles have the same two roots. If the readings are a safe set, and no two have
+//! the same two roots, no two of the profiles clash in Unison, and by none of them Unison breaks a rule: see [`laws`].
+//!
+//! [`copy_of`] copies a specification, and [`spec_of_choices`] makes one of choices, if their text is read so.
 //!
 //! Only functions that return a `Result` allocate. The contracts are in the words of `specs/Lines` (what a line spells),
 //! `specs/Matching` (what Unison matches by the text of a line for certain, and what it may match), `specs/Written` (a profile as
@@ -29,8 +31,8 @@
 //!   character or a set of other than ASCII characters is left out. An `ignorenot` with `?` or such a set gets a `*` in their place;
 //!   if one has ` -> ` or a control character, each `ignore` and `ignorenot` line is left out. A bar stays if Unison matches its
 //!   pattern in the same way. `path = docs/*` becomes `path = docs` without `ignore` and `ignorenot` lines.
-//! - With these, a reading has no more `ignore` and `ignorenot` lines than may be read: where one more line would pass the limit,
-//!   its `ignore` line is left out (law `readings_are_within_the_limit`).
+//! - So a reading may have twice as many `ignore` and `ignorenot` lines as may be read: it is a value, and no text. A line
+//!   that only ignores more never makes a reading wider (law `ignoring_more_reaches_less`).
 //! - Beside rules each `ignore` line and each bar on a pattern is left out, since Unison tests a bar at the path of an item
 //!   alone, and takes ignored files away with their folder; and `nocreation` too, unless there is `noupdate` of the same root.
 //!
@@ -59,3 +61,4 @@ mod tops;
 pub use reading::{cautious, lines_cut};
 pub use set::read_set;
 pub use shared::shared_archives;
+pub use spare::{copy_of, spec_of_choices};

@@ -3,7 +3,7 @@ ghost use Rattle.std.specs.Prelude.{◌≡◌, ◌||◌, IfOk};
 ghost use Rattle.std.specs.List.{list_any};
 ghost use Rattle.hub_unison.specs.ReadingOf as reading;
 
-use crate::spare::spare_of;
+use crate::spare::spec_of_choices;
 use crate::spares::is_plain;
 use hub_glob::PathSpec;
 use std::alloc::{AllocError, Global};
@@ -50,7 +50,7 @@ fn owns(alloc: Global, spec: &PathSpec, spare: &PathSpec) -> Result<bool, AllocE
         return Ok(false);
     }
     let choices = spec.choices()?;
-    match spare_of(alloc, spec.kind(), choices)? {
+    match spec_of_choices(alloc, spec.kind(), choices)? {
         Some(braced) => Ok(&braced == spare),
         None => Ok(false),
     }

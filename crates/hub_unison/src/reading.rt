@@ -16,23 +16,23 @@ use std::alloc::{AllocError, Global};
 ///
 /// Of the `ignore` lines it keeps those that are plain, and those that are plain without one of their `*`: what such a line
 /// matches without it is spared by an `ignorenot` line, unless another `ignore` line is plain and has just this pattern, or an
-/// `ignorenot` line has it. Of the lines with one more line only the first stay, as long as there are at most `PATTERN_LINES`. It
-/// keeps the partial bars that are plain. An `ignorenot` line with `?` or a set past ASCII also matches what it does with a `*` in
-/// place of each. If it isn't known what such a line may match, nothing is ignored. If a kept value ends with `*`, nothing is
-/// ignored either, and the parent of this value is kept. All else stays, and so does a profile that hubsync and Unison read alike.
+/// `ignorenot` line has it. A line is left out if its pattern, or that of what is spared, would have more than
+/// `PATTERN_CHARACTERS`. The reading may have more lines than a text may: up to twice as many. It keeps the partial bars that
+/// are plain. An `ignorenot` line with `?` or a set past ASCII also matches what it does with a `*` in place of each. If it
+/// isn't known what such a line may match, nothing is ignored. If a kept value ends with `*`, nothing is ignored either, and
+/// the parent of this value is kept. All else stays, and so does a profile that hubsync and Unison read alike.
 pub fn cautious(alloc: Global, profile: Profile) -> Result<Profile, AllocError>
     ensures value { IfOk result (λ r. r ≡ reading.cautious_of profile) }
     ensures wide { IfOk result (λ r. (W : Written) → IsWrittenAs W profile
         → unison.IsCautious W r) }
     ensures alike { reading.is_read_alike profile ≡ true → IfOk result (λ r. r ≡ profile) }
-    ensures within { reading.IsWithinLines profile → IfOk result (λ r. reading.IsWithinLines r) }
 {
     read(alloc, profile)
 }
 
-/// Returns the numbers, from 0 on, of the `ignore` lines that the cautious reading leaves out for a limit: since a pattern would have
-/// more than `PATTERN_CHARACTERS`, or the profile more than `PATTERN_LINES` lines, with those for what is matched with a dot at the
-/// start of a name.
+/// Returns the numbers, from 0 on, of the `ignore` lines that the cautious reading leaves out since a pattern would be too
+/// long: the line's own, or that of what is matched with a dot at the start of a name, would have more than
+/// `PATTERN_CHARACTERS`.
 pub fn lines_cut(alloc: Global, profile: &Profile) -> Result<Vec<usize>, AllocError>
     ensures { IfOk result (λ v. v.items ≡ reading.lines_cut profile.now) }
 {

@@ -10,14 +10,14 @@ use hub_text::Items;
 use std::alloc::{AllocError, Global};
 
 /// Copies a specification, if it is read from its own text.
-pub(crate) fn copy_of(alloc: Global, spec: &PathSpec) -> Result<Option<PathSpec>, AllocError>
+pub fn copy_of(alloc: Global, spec: &PathSpec) -> Result<Option<PathSpec>, AllocError>
     ensures { IfOk result (λ o. o ≡ reading.read_back spec.now) }
 {
     spec_of(alloc, spec.kind(), spec.pattern())
 }
 
 /// Returns the specification of that kind with these choices, if it is read from its own text.
-pub(crate) fn spare_of(
+pub fn spec_of_choices(
     alloc: Global,
     kind: Kind,
     choices: Items<Items<Piece>>,

@@ -1,6 +1,6 @@
 -- The readings of profiles are cautious, and are the profiles themselves where all is read alike.
-use Rattle.std.proofs.Common.{◌≡◌, ◌==◌, ◌-◌, ℕ, suc, Bool, true, false, not, ◌&&◌, ◌||◌, List, [], ◌∷◌, ◌++◌, cond, length, map, refl, sym, ap, ◌∙◌, arith, append-nil, subst}
-use Rattle.std.specs.Prelude.{nat_le, nat_lt, if◌then◌else◌, option_map}
+use Rattle.std.proofs.Common.{◌≡◌, ◌==◌, ℕ, suc, Bool, true, false, not, ◌&&◌, ◌||◌, List, [], ◌∷◌, ◌++◌, cond, length, map, refl, sym, ap, ◌∙◌, arith, append-nil, subst}
+use Rattle.std.specs.Prelude.{nat_lt, if◌then◌else◌, option_map}
 use Rattle.std.specs.List.{list_any, list_all, filter, flat_map}
 use Rattle.std.proofs.lemmas.Bool.{and_parts, and_from, or_right}
 use Rattle.std.proofs.lemmas.Bool.Decides.{nat_tests}
@@ -18,10 +18,10 @@ use Rattle.hub_unison.specs.declared.kept.Kept.TheVariants.{Nothing, Cut, Alone,
 use Rattle.hub_profile.specs.Parts.{Parts}
 use Rattle.hub_unison.specs.Cautious.{any_surely, cover, covers_value, has_star, with_patterns, with_tops, IgnoresLess, SparesMore, BarsLess}
 use Rattle.hub_unison.specs.laws.Cautious.{lines-cautious, none-cautious, tops-cautious, no}
-use Rattle.hub_unison.specs.Kept.{own_lines, spare_lines, within, taken, fitting}
+use Rattle.hub_unison.specs.Kept.{own_lines, spare_lines}
 use Rattle.hub_unison.specs.Matching.{all_simple, all_known, spec_perhaps, starred, spec_surely, widened}
 use Rattle.hub_unison.specs.laws.Piece.{all-weaker, any-where}
-use Rattle.hub_unison.specs.ReadingOf.{all_kept, braced, each_kept, is_among, is_owned, line_kept, needed, owns, room_beside, are_tops, bar_stays, cautious_of, cut_value, has_spares, is_read_alike, is_read_back, kept_bars, line_stays, reading_of, spare_of, spare_stays, top_values, topmost, with_kept}
+use Rattle.hub_unison.specs.ReadingOf.{braced, each_kept, is_among, is_owned, line_kept, needed, owns, are_tops, bar_stays, cautious_of, cut_value, has_spares, is_read_alike, is_read_back, kept_bars, line_stays, reading_of, spare_of, spare_stays, top_values, topmost, with_kept}
 use Rattle.hub_unison.specs.Rules.{AreReadForUnison, IsReadingOf, for_rules}
 use Rattle.hub_unison.specs.laws.Rules.{cautious-read, rules-read}
 use Rattle.hub_unison.specs.laws.Spare.{all-known, plain-matches, spared-matches}
@@ -210,48 +210,36 @@ module _ (old spared : List Specification) (q : Path) where
           (any_surely old q || (any_matches spared q || false)) k (by-spared [])
           (λ m. by-spare e (alone-only (matches spare q) m)))
 
-  within-sure : (room : ℕ) (k : Kept) → IsSure k → IsSure (within room k)
-  within-sure room Nothing sure = sure
-  within-sure room Cut sure = sure
-  within-sure room (Alone s) sure = sure
-  within-sure room (Sparing s spare) sure = go (nat_le 2 room)
-    where
-      go : (b : Bool) → IsSure (if b then Sparing s spare else Cut)
-      go true = sure
-      go false = cut-sure
-
-  fitting-sure : (ss : List Specification) (room : ℕ)
-      → (any_surely ss q ≡ true → any_surely old q ≡ true)
-      → any_matches (flat_map own_lines (fitting room (map (λ s. needed old spared (line_kept s)) ss))) q ≡ true
-      → Covered (flat_map spare_lines (fitting room (map (λ s. needed old spared (line_kept s)) ss)))
-  fitting-sure [] room up h = absurd (no h)
-  fitting-sure (s ∷ ss) room up h =
+  each-sure : (ss : List Specification) → (any_surely ss q ≡ true → any_surely old q ≡ true)
+      → any_matches (flat_map own_lines (map (λ s. needed old spared (line_kept s)) ss)) q ≡ true
+      → Covered (flat_map spare_lines (map (λ s. needed old spared (line_kept s)) ss))
+  each-sure [] up h = absurd (no h)
+  each-sure (s ∷ ss) up h =
       or-cases (any_matches (own_lines k) q) (any_matches (flat_map own_lines rest) q)
       (any_surely old q || (any_matches spared q || any_matches (spare_lines k ++ flat_map spare_lines rest) q))
       (any-append (λ x. matches x q) (own_lines k) (flat_map own_lines rest) ∙ h)
       (λ m. covered-more (spare_lines k) (spare_lines k ++ flat_map spare_lines rest)
       (λ e. sym (any-append (λ x. matches x q) (spare_lines k) (flat_map spare_lines rest))
       ∙ ap (λ b. b || any_matches (flat_map spare_lines rest) q) e)
-      (within-sure room (needed old spared (line_kept s)) (needed-sure (line_kept s)
-      (line-sure s (λ e. up (ap (λ b. b || any_surely ss q) e)))) m))
+      (needed-sure (line_kept s) (line-sure s (λ e. up (ap (λ b. b || any_surely ss q) e))) m))
       (λ m. covered-more (flat_map spare_lines rest) (spare_lines k ++ flat_map spare_lines rest)
       (λ e. sym (any-append (λ x. matches x q) (spare_lines k) (flat_map spare_lines rest))
       ∙ or_right (any_matches (spare_lines k) q) (any_matches (flat_map spare_lines rest) q) e)
-      (fitting-sure ss (room - taken k) (λ e. up (or_right (spec_surely s q) (any_surely ss q) e)) m))
+      (each-sure ss (λ e. up (or_right (spec_surely s q) (any_surely ss q) e)) m))
     where
       k : Kept
-      k = within room (needed old spared (line_kept s))
+      k = needed old spared (line_kept s)
 
       rest : List Kept
-      rest = fitting (room - taken k) (map (λ s. needed old spared (line_kept s)) ss)
+      rest = map (λ s. needed old spared (line_kept s)) ss
 
 kept-less : (old spared : List Specification)
-    → IgnoresLess old (flat_map own_lines (all_kept old spared))
-    (spared ++ flat_map spare_lines (all_kept old spared))
+    → IgnoresLess old (flat_map own_lines (each_kept old spared))
+    (spared ++ flat_map spare_lines (each_kept old spared))
 kept-less old spared q h =
     ap (λ b. any_surely old q || b)
-    (sym (any-append (λ s. matches s q) spared (flat_map spare_lines (all_kept old spared))))
-    ∙ fitting-sure old spared q old (room_beside spared (each_kept old spared)) (λ e. e) h
+    (sym (any-append (λ s. matches s q) spared (flat_map spare_lines (each_kept old spared))))
+    ∙ each-sure old spared q old (λ e. e) h
 
 -- The `ignorenot` lines, and others besides.
 spared-more : (old added : List Specification) → list_all spare_stays old ≡ true
@@ -316,14 +304,14 @@ own-cautious W written = go (has_star P) refl (list_all spare_stays P.ignorenot)
 
     go : (b : Bool) → has_star P ≡ b → (c : Bool) → list_all spare_stays P.ignorenot ≡ c
         → IsCautious W (if b then with_tops P (top_values P.paths) bars
-        else (if c then with_kept P (all_kept P.ignore spared) spared bars
+        else (if c then with_kept P (each_kept P.ignore spared) spared bars
         else with_patterns P [] [] bars))
     go true e c f =
         tops-cautious W written (top_values P.paths) bars (values-cover P.paths) (bars-less P.partial)
     go false e true f =
-        lines-cautious W written (flat_map own_lines (all_kept P.ignore spared))
-        (spared ++ flat_map spare_lines (all_kept P.ignore spared)) bars e (kept-less P.ignore spared)
-        (spared-more P.ignorenot (flat_map spare_lines (all_kept P.ignore spared)) f)
+        lines-cautious W written (flat_map own_lines (each_kept P.ignore spared))
+        (spared ++ flat_map spare_lines (each_kept P.ignore spared)) bars e (kept-less P.ignore spared)
+        (spared-more P.ignorenot (flat_map spare_lines (each_kept P.ignore spared)) f)
         (bars-less P.partial)
     go false e false f = none-cautious W written bars e (bars-less P.partial)
 
@@ -380,10 +368,6 @@ alike-each old spared (s ∷ ss) h =
     (list_all (λ s. is_read_back s && is_plain s.pattern) ss) h in
     λ i. needed old spared (alike-line s parts.0 i) ∷ alike-each old spared ss parts.1 i
 
-alone-fits : (ss : List Specification) (room : ℕ) → fitting room (map Alone ss) ≡ map Alone ss
-alone-fits [] room = refl
-alone-fits (s ∷ ss) room = ap (λ ks. Alone s ∷ ks) (alone-fits ss (room - 0))
-
 alone-own : (ss : List Specification) → flat_map own_lines (map Alone ss) ≡ ss
 alone-own [] = refl
 alone-own (s ∷ ss) = ap (λ xs. s ∷ xs) (alone-own ss)
@@ -412,16 +396,14 @@ same-widened (s ∷ ss) h =
 
 alike-kept : (old spared : List Specification)
     → list_all (λ s. is_read_back s && is_plain s.pattern) old ≡ true
-    → all_kept old spared ≡ map Alone old
-alike-kept old spared h =
-    (λ i. fitting (room_beside spared (each_kept old spared)) (alike-each old spared old h i))
-    ∙ alone-fits old (room_beside spared (each_kept old spared))
+    → each_kept old spared ≡ map Alone old
+alike-kept old spared h = alike-each old spared old h
 
 alike-lines : (P : Parts)
     → list_all (λ s. is_read_back s && is_plain s.pattern) P.ignore ≡ true
     → list_all (λ s. is_read_back s && all_simple s.pattern) P.ignorenot ≡ true
     → list_all bar_stays P.partial ≡ true
-    → with_kept P (all_kept P.ignore (map widened P.ignorenot)) (map widened P.ignorenot) (kept_bars P.partial)
+    → with_kept P (each_kept P.ignore (map widened P.ignorenot)) (map widened P.ignorenot) (kept_bars P.partial)
     ≡ P
 alike-lines P lines nots bars =
     (λ i. with_kept P (alike-kept P.ignore (map widened P.ignorenot) lines i)
@@ -433,7 +415,7 @@ pub alike-stays : (P : Parts) → is_read_alike P ≡ true → cautious_of P ≡
 alike-stays P h =
     (λ i. if not-true (has_star P) three.0 i then with_tops P (top_values P.paths) (kept_bars P.partial)
     else (if stay i
-    then with_kept P (all_kept P.ignore (map widened P.ignorenot)) (map widened P.ignorenot) (kept_bars P.partial)
+    then with_kept P (each_kept P.ignore (map widened P.ignorenot)) (map widened P.ignorenot) (kept_bars P.partial)
     else with_patterns P [] [] (kept_bars P.partial))) ∙ alike-lines P three.1 two.1 one.1
   where
     lines : Bool

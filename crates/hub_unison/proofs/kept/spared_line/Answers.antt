@@ -23,8 +23,8 @@ returns-then-not-branch c =
 pub returns : goal.returns
 returns c =
     let s = c.args.spec.now in
-    IfOk-weaker c.spare_of.result
+    IfOk-weaker c.spec_of_choices.result
     (λ (o : Option Specification). o ≡ read_back (record { kind = c.kind.result; pattern = Brace c.in_ok-choices.choices ∷ [] }))
     (λ o. o ≡ (if spare_stays s then Some (widened s) else None))
     (λ o e. spare-starred s c.kind.result c.in_ok-choices.choices o (sym c.in_ok-is_simple.ensures ∙ c.if-branch.false)
-    (sym c.in_ok-is_known.ensures ∙ c.if-not-branch.false) c.kind.ensures c.in_ok-choices.ensures e) c.spare_of.ensures
+    (sym c.in_ok-is_known.ensures ∙ c.if-not-branch.false) c.kind.ensures c.in_ok-choices.ensures e) c.spec_of_choices.ensures

@@ -1,9 +1,8 @@
 use Rattle.std.proofs.Common.{◌≡◌, ◌∙◌, subst, sym}
 use Rattle.std.proofs.lemmas.Result.{IfOk-weaker}
 use Rattle.hub_profile.specs.Parts.{Parts}
-use Rattle.hub_unison.specs.laws.Limit.{reading-within}
 use Rattle.hub_unison.specs.laws.Reading.{alike-stays, reading-cautious}
-use Rattle.hub_unison.specs.ReadingOf.{cautious_of, IsWithinLines}
+use Rattle.hub_unison.specs.ReadingOf.{cautious_of}
 use Rattle.hub_unison.specs.UnisonReach.{IsCautious}
 use Rattle.hub_unison.specs.Written.{IsWrittenAs, Written}
 use Rattle.hub_unison.proofs.reading.cautious.Goals as goal
@@ -20,9 +19,3 @@ returns-clause-alike c = λ alike.
     let P = c.args.profile in
     IfOk-weaker c.read.result (λ (r : Parts). r ≡ cautious_of P) (λ r. r ≡ P)
     (λ r e. e ∙ alike-stays P alike) c.read.ensures
-
-pub returns-clause-within : goal.returns-clause-within
-returns-clause-within c = λ few.
-    let P = c.args.profile in
-    IfOk-weaker c.read.result (λ (r : Parts). r ≡ cautious_of P) (λ r. IsWithinLines r)
-    (λ r e. subst IsWithinLines (sym e) (reading-within P few)) c.read.ensures

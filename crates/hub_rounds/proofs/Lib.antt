@@ -1,5 +1,6 @@
 pub mod AsNumbers
 pub mod Cutting
+pub mod LineLists
 pub mod Numbers
 pub mod Reasons
 pub mod Rivals

@@ -1,4 +1,5 @@
 pub mod Lines
+pub mod Named
 pub mod Numbered
 pub mod Rounds
 pub mod Unverified

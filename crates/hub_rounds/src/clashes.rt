@@ -3,7 +3,7 @@ ghost use Rattle.std.specs.Prelude.{◌≡◌, [], List, Contains, IfOk};
 ghost use Rattle.hub_cert.specs.Set.{IsSafeSet};
 ghost use Rattle.hub_cert.specs.declared.fault.CheckFault.{CheckFault};
 ghost use Rattle.hub_search.specs.Faults.{AreFaults};
-ghost use Rattle.hub_search.specs.Search.{Disproves};
+ghost use Rattle.hub_search.specs.Search.{Disproves, IsSearched};
 ghost use Rattle.hub_rounds.specs.Lines.{BeginWithFirstFault, DecideEachGoal};
 
 use hub_cert::laws::{certificates_make_a_set_safe, goals_are_listed_once};
@@ -45,11 +45,13 @@ impl Clashes {
 /// Searches for each goal of the set, and returns what they show, in the order of the goals.
 ///
 /// The first line is one by which `check` may refuse the set. Without a line the set is safe. A set with an overlap or a
-/// breach isn't. A goal that is too large may be ruled out or not.
+/// breach isn't. A goal that is too large may be ruled out or not, and kept values alone don't rule it out.
 pub fn clashes_of(alloc: Global, set: &ProfileSet) -> Result<Clashes, AllocError>
     ensures lines { IfOk result (AreFaults set.now) }
     ensures disproved { IfOk result (λ es. (e : CheckFault) → Contains es e
         → Disproves set.now e) }
+    ensures searched { IfOk result (λ es. (e : CheckFault) → Contains es e
+        → IsSearched set.now e) }
     ensures rest { IfOk result (DecideEachGoal set.now) }
     ensures first { IfOk result (BeginWithFirstFault set.now) }
     ensures safe { IfOk result (λ es. es ≡ [] → IsSafeSet set.now) }

@@ -1,11 +1,12 @@
 //! Profiles of which each two clash: each needs a round of its own.
-ghost use Rattle.std.specs.Prelude.{◌≡◌, ◌↔◌, true, IfOk, OnOk};
+ghost use Rattle.std.specs.Prelude.{◌≡◌, ◌↔◌, ◌<◌, ◌≤◌, true, length, IfOk, OnOk};
 ghost use Rattle.std.specs.List.{list_any};
 ghost use Rattle.hub_rounds.specs.Lines as said;
 ghost use Rattle.hub_rounds.specs.Lines.{HasPair, names_pair};
+ghost use Rattle.hub_rounds.specs.Named.{AreLinesOf, AreNoted, pair_at};
 ghost use Rattle.hub_rounds.specs.Numbered.{AreAllRivals, AreRivalNumbers, NumberIsInRound, NumberMayJoin};
 
-use crate::colouring::{Turn, turns_by_clashes};
+use crate::greedy::clique_by_turns;
 use crate::named::Named;
 use crate::placing::Placing;
 use crate::subject::{Subject, subject_of};
@@ -13,9 +14,8 @@ use hub_cert::CheckFault;
 use hub_text::Items;
 use std::alloc::{AllocError, Global};
 
-/// Returns profiles of rounds of which each two clash. They are found by adding what clashes with all so far, those with the most
-/// clashes first, once from each profile on; the longest list is taken, and of these the first. If more of the profiles that are
-/// given clash, each two of them, these are taken in its place. Nobody else clashes with all of them.
+/// Returns profiles of rounds of which each two clash: those of `clique_by_turns`, or of the profiles that are given those that
+/// clash with all before them, if these are more. Nobody else clashes with all of them.
 pub(crate) fn rivals_of(
     alloc: Global,
     lines: &[CheckFault],
@@ -23,10 +23,13 @@ pub(crate) fn rivals_of(
     placed: &[Placing],
     given: &[usize],
 ) -> Result<Items<usize>, AllocError>
+    requires noted { AreNoted lines.now named.now.lists.items }
+    requires count { length placed.now ≤ length named.now.lists.items }
     ensures rivals { IfOk result (AreRivalNumbers lines.now placed.now) }
     ensures whole { IfOk result (AreAllRivals lines.now placed.now) }
 {
-    let mut rivals = rivals_by_turns(alloc, lines, named, placed)?;
+    let clique = clique_by_turns(alloc, named)?;
+    let mut rivals = rivals_among(alloc, lines, named, placed, clique.as_slice())?;
     let others = rivals_among(alloc, lines, named, placed, given)?;
     if others.len() > rivals.len() {
         rivals = others;
@@ -35,70 +38,33 @@ pub(crate) fn rivals_of(
     Ok(Items::from_vec(rivals))
 }
 
-/// Returns such profiles, found by adding those with the most clashes first, once from each profile on.
-fn rivals_by_turns(
-    alloc: Global,
-    lines: &[CheckFault],
-    named: &Named,
-    placed: &[Placing],
-) -> Result<Vec<usize>, AllocError>
-    ensures { IfOk result (λ v. AreRivalNumbers lines.now placed.now v.items) }
-{
-    let turns = turns_by_clashes(alloc, named)?;
-    let mut longest = Vec::new(alloc);
-    for first in turns.as_slice() {
-        let own = rivals_from(alloc, lines, named, placed, first.profile, turns.as_slice())?;
-        if own.len() > longest.len() {
-            longest = own;
-        }
-    }
-    Ok(longest)
-}
-
-/// Returns such profiles among those that are given.
+/// Returns profiles of rounds of which each two clash: of these each that clashes with all before it.
 fn rivals_among(
     alloc: Global,
     lines: &[CheckFault],
     named: &Named,
     placed: &[Placing],
-    given: &[usize],
+    profiles: &[usize],
 ) -> Result<Vec<usize>, AllocError>
     ensures { IfOk result (λ v. AreRivalNumbers lines.now placed.now v.items) }
 {
     let mut rivals = Vec::new(alloc);
-    for profile in given {
+    for profile in profiles {
         join(&mut rivals, lines, named, placed, *profile)?;
     }
     Ok(rivals)
 }
 
-/// Returns such profiles, of which this one is the first if it is in a round.
-fn rivals_from(
-    alloc: Global,
-    lines: &[CheckFault],
-    named: &Named,
-    placed: &[Placing],
-    first: usize,
-    turns: &[Turn],
-) -> Result<Vec<usize>, AllocError>
-    ensures rivals { IfOk result (λ v. AreRivalNumbers lines.now placed.now v.items) }
-{
-    let mut rivals = Vec::new(alloc);
-    join(&mut rivals, lines, named, placed, first)?;
-    for turn in turns {
-        join(&mut rivals, lines, named, placed, turn.profile)?;
-    }
-    Ok(rivals)
-}
-
-/// Adds each profile that is in a round and clashes with all that are there.
+/// Adds each profile that is in a round and clashes with all that are there. All lines about it are looked at.
 fn join_each(
     rivals: &mut Vec<usize>,
     lines: &[CheckFault],
     named: &Named,
     placed: &[Placing],
 ) -> Result<(), AllocError>
-    requires { AreRivalNumbers lines.now placed.now rivals.old.items }
+    requires rivals { AreRivalNumbers lines.now placed.now rivals.old.items }
+    requires noted { AreNoted lines.now named.now.lists.items }
+    requires count { length placed.now ≤ length named.now.lists.items }
     ensures rivals { OnOk result (AreRivalNumbers lines.now placed.now rivals.new.items) }
     ensures whole { OnOk result (AreAllRivals lines.now placed.now rivals.new.items) }
 {
@@ -110,7 +76,7 @@ fn join_each(
     Ok(())
 }
 
-/// Returns whether a profile is in a round and clashes with all of these. If no line is noted, all of them are looked at.
+/// Returns whether a profile is in a round and clashes with all of these.
 fn may_join_surely(
     rivals: &[usize],
     lines: &[CheckFault],
@@ -118,29 +84,50 @@ fn may_join_surely(
     placed: &[Placing],
     profile: usize,
 ) -> bool
+    requires noted { AreNoted lines.now named.now.lists.items }
+    requires profile { profile < length named.now.lists.items }
     ensures { result ≡ true ↔ NumberMayJoin lines.now placed.now rivals.now profile }
 {
+    let own = named.lines_of(profile);
     is_in_round(placed, profile)
         && rivals
             .iter()
-            .all(|rival| clash_surely(lines, named, *rival, profile))
+            .all(|rival| clash_surely(lines, named, own, *rival, profile))
 }
 
-/// Returns whether a line says that both profiles clash. If none is noted, all of them are looked at.
-fn clash_surely(lines: &[CheckFault], named: &Named, one: usize, other: usize) -> bool
+/// Returns whether a line says that both profiles clash. If none is noted, all lines about the second one are looked at: its own.
+fn clash_surely(
+    lines: &[CheckFault],
+    named: &Named,
+    own: &[usize],
+    one: usize,
+    other: usize,
+) -> bool
+    requires { AreLinesOf lines.now own.now other }
     ensures { result ≡ true ↔ HasPair lines.now one other }
 {
     if clash(lines, named, one, other) {
         return true;
     }
-    are_named(lines, one, other)
+    are_named(lines, own, one, other)
 }
 
-/// Returns whether one of the lines is about these two profiles.
-fn are_named(lines: &[CheckFault], one: usize, other: usize) -> bool
-    ensures { result ≡ list_any (λ e. names_pair (said.subject_of e) one other) lines.now }
+/// Returns whether one of these lines is about both profiles.
+fn are_named(lines: &[CheckFault], own: &[usize], one: usize, other: usize) -> bool
+    ensures { result ≡ list_any (pair_at lines.now one other) own.now }
 {
-    lines.iter().any(|line| names_both(line, one, other))
+    own.iter()
+        .any(|line| names_both_at(lines, *line, one, other))
+}
+
+/// Returns whether the line of that number is about these two profiles.
+fn names_both_at(lines: &[CheckFault], line: usize, one: usize, other: usize) -> bool
+    ensures { result ≡ pair_at lines.now one other line }
+{
+    match lines.get(line) {
+        Some(own) => names_both(own, one, other),
+        None => false,
+    }
 }
 
 /// Adds a profile, if it is in a round and clashes with all that are there.

@@ -124,13 +124,14 @@ fn turns_by_colours(
     colours: &[Option<usize>],
     is_last_first: bool,
 ) -> Result<Vec<Turn>, AllocError> {
+    let counts = counts_of(alloc, colours)?;
     let mut turns = Vec::new(alloc);
     for (profile, own) in colours.iter().enumerate() {
         if let Some(colour) = *own {
             let weight = if is_last_first {
                 colour
             } else {
-                count_of(colours, colour)
+                count_at(counts.as_slice(), colour)
             };
             turns.push(Turn::new(weight, colour, profile))?;
         }
@@ -139,9 +140,26 @@ fn turns_by_colours(
     Ok(turns)
 }
 
+/// Returns how many profiles have each colour. No colour is greater than the number of profiles.
+fn counts_of(alloc: Global, colours: &[Option<usize>]) -> Result<Vec<usize>, AllocError> {
+    let mut counts = Vec::new(alloc);
+    counts.resize(colours.len(), 0usize)?;
+    for own in colours {
+        if let Some(colour) = *own {
+            if let Some(count) = counts.get_mut(colour) {
+                *count = count.saturating_add(1);
+            }
+        }
+    }
+    Ok(counts)
+}
+
 /// Returns how many profiles have the colour.
-fn count_of(colours: &[Option<usize>], colour: usize) -> usize {
-    colours.iter().filter(|own| **own == Some(colour)).count()
+fn count_at(counts: &[usize], colour: usize) -> usize {
+    match counts.get(colour) {
+        Some(count) => *count,
+        None => 0,
+    }
 }
 
 /// Gives each profile in its turn the least colour that no profile has with which it clashes.
@@ -163,26 +181,32 @@ fn colour_in_turn(
     Ok(colours)
 }
 
-/// Returns the least colour that no profile has with which this one clashes. There are fewer such profiles than colours.
+/// Returns the least colour that no neighbour of the profile has. There are fewer neighbours than colours. No colour is taken
+/// before, and none after.
 fn free_colour(
     named: &Named,
     colours: &[Option<usize>],
     taken: &mut Vec<bool>,
     profile: usize,
 ) -> usize {
-    for is_taken in taken.iter_mut() {
-        *is_taken = false;
-    }
-    take_colours(named, colours, taken, profile);
-    taken.iter().position(|is_taken| !*is_taken).unwrap_or(0)
+    set_taken(named, colours, taken, profile, true);
+    let free = taken.iter().position(|is_taken| !*is_taken).unwrap_or(0);
+    set_taken(named, colours, taken, profile, false);
+    free
 }
 
-/// Takes each colour of a profile with which this one clashes.
-fn take_colours(named: &Named, colours: &[Option<usize>], taken: &mut Vec<bool>, profile: usize) {
-    for (other, own) in colours.iter().enumerate() {
-        if let Some(colour) = *own {
-            if colour < taken.len() && named.pair_line(profile, other).is_some() {
-                taken[colour] = true;
+/// Says of each colour of the profile's neighbours whether it is taken.
+fn set_taken(
+    named: &Named,
+    colours: &[Option<usize>],
+    taken: &mut Vec<bool>,
+    profile: usize,
+    is_taken: bool,
+) {
+    for other in named.neighbours_of(profile) {
+        if let Some(Some(colour)) = colours.get(other.profile) {
+            if let Some(own) = taken.get_mut(*colour) {
+                *own = is_taken;
             }
         }
     }

@@ -26,12 +26,16 @@
 //! colours, fewer colours are searched for (Brélaz's DSATUR, by branch and bound). Both searches find the best, unless they
 //! take more steps than they may.
 //!
+//! The clashes of each profile are kept as a sorted list, and so are the lines about it. So time and memory grow with the
+//! profiles and the lines, and with all pairs of profiles only where most of them clash.
+//!
 //! A colouring is a guess. What is stated of rounds rests on `check`, and on the lines; of rounds of numbers, on the lines alone.
 //! Each profile that is left out, and each two profiles of the lower bound, have a line that is looked at. A profile of which a
 //! line says that it clashes in the round of its colour gets a round of its own.
 //!
-//! The contracts use the words of `specs/Lines` (what a line says of which profiles) and `specs/Rounds` (where profiles stand),
-//! `specs/Numbered` (where their numbers stand), and hub_search's `specs/Faults` (the lines of a set).
+//! The contracts use the words of `specs/Lines` (what a line says of which profiles), `specs/Named` (the lines about each of
+//! them), `specs/Rounds` (where profiles stand), `specs/Numbered` (where their numbers stand), and hub_search's `specs/Faults`
+//! (the lines of a set).
 //!
 //! Only functions that return a `Result` allocate.
 //!
@@ -59,8 +63,10 @@ mod clique;
 mod colouring;
 mod fault;
 mod graph;
+mod greedy;
 mod largest;
 mod named;
+mod noted;
 mod numbered;
 mod painting;
 mod placing;

@@ -1,16 +1,30 @@
 //! The lines that name a profile or a pair of profiles, by their numbers.
 //!
-//! Nothing is stated of these numbers. Who relies on a line looks at it.
+//! Of each profile's list of lines it is stated that no line is missing. Nothing else is stated of these numbers. Who relies on a
+//! line looks at it.
+ghost use Rattle.std.specs.Prelude.{◌≡◌, ◌<◌, List, length, IfOk};
+ghost use Rattle.hub_cert.specs.declared.fault.CheckFault.{CheckFault};
+ghost use Rattle.hub_rounds.specs.Named.{AreLinesOf, AreNoted};
 
+use crate::noted::lines_of_each;
 use crate::subject::{Subject, subject_of};
 use hub_cert::CheckFault;
+use hub_text::Items;
 use std::alloc::{AllocError, Global};
 
-/// For each profile the first line about it alone, and for each two profiles the first line about them, if there is one. The pairs
-/// are n rows of n cells for n profiles.
+/// Another profile with which one has a line, and the first line about both.
+#[derive(Clone, Copy, Debug, PartialEq, Eq, PartialOrd, Ord)]
+pub(crate) struct Neighbour {
+    pub(crate) profile: usize,
+    line: usize,
+}
+
+/// For each profile all lines about it, the first line about it alone, and its neighbours: the profiles with which it has a line,
+/// in their order.
 #[derive(Drop)]
 pub(crate) struct Named {
-    pairs: Vec<Vec<Option<usize>>>,
+    pub(crate) lists: Vec<Items<usize>>,
+    neighbours: Vec<Vec<Neighbour>>,
     own: Vec<Option<usize>>,
 }
 
@@ -20,27 +34,18 @@ impl Named {
         alloc: Global,
         profiles: usize,
         lines: &[CheckFault],
-    ) -> Result<Named, AllocError> {
-        let mut named = Named {
-            pairs: no_pairs(alloc, profiles)?,
-            own: no_lines(alloc, profiles)?,
-        };
-        for (line, fault) in lines.iter().enumerate() {
-            named.note(subject_of(fault), line);
-        }
-        Ok(named)
-    }
-
-    /// Notes that the line of that number says this. An earlier line about the same stays.
-    fn note(&mut self, subject: Subject, line: usize) {
-        match subject {
-            Subject::Pair { writer, other } => {
-                note_in(&mut self.pairs, writer, other, line);
-                note_in(&mut self.pairs, other, writer, line);
-            }
-            Subject::Alone { profile, .. } => note_at(&mut self.own, profile, line),
-            Subject::Nothing => {}
-        }
+    ) -> Result<Named, AllocError>
+        ensures long { IfOk result (λ n. length n.lists.items ≡ profiles) }
+        ensures noted { IfOk result (λ n. AreNoted lines.now n.lists.items) }
+    {
+        let lists = lines_of_each(alloc, profiles, lines)?;
+        let neighbours = neighbours_of_each(alloc, profiles, lines)?;
+        let own = own_lines(alloc, profiles, lines)?;
+        Ok(Named {
+            lists,
+            neighbours,
+            own,
+        })
     }
 
     /// Returns the number of profiles.
@@ -48,56 +53,114 @@ impl Named {
         self.own.len()
     }
 
+    /// Returns the numbers of the lines about the profile.
+    pub(crate) fn lines_of(&self, profile: usize) -> &[usize]
+        requires { profile < length self.now.lists.items }
+        ensures { (es : List CheckFault) → AreNoted es self.now.lists.items
+            → AreLinesOf es result.now profile }
+    {
+        self.lists[profile].as_slice()
+    }
+
     /// Returns the number of the first line about the profile alone.
     pub(crate) fn own_line(&self, profile: usize) -> Option<usize> {
-        line_at(self.own.as_slice(), profile)
+        *self.own.get(profile)?
     }
 
     /// Returns the number of the first line about both profiles.
     pub(crate) fn pair_line(&self, one: usize, other: usize) -> Option<usize> {
-        line_at(self.pairs.get(one)?.as_slice(), other)
+        let neighbours = self.neighbours_of(one);
+        let place = neighbours
+            .binary_search_by_key(&other, |own| own.profile)
+            .ok()?;
+        Some(neighbours.get(place)?.line)
+    }
+
+    /// Borrows the neighbours of the profile.
+    pub(crate) fn neighbours_of(&self, profile: usize) -> &[Neighbour] {
+        match self.neighbours.get(profile) {
+            Some(own) => own.as_slice(),
+            None => &[],
+        }
     }
 
     /// Returns with how many profiles this one clashes that are in a round.
     pub(crate) fn degree(&self, profile: usize) -> usize {
-        (0..self.len())
-            .filter(|other| self.own_line(*other).is_none()
-                && self.pair_line(profile, *other).is_some())
+        self.neighbours_of(profile)
+            .iter()
+            .filter(|other| self.own_line(other.profile).is_none())
             .count()
     }
 }
 
-/// Returns the line in a cell.
-fn line_at(cells: &[Option<usize>], cell: usize) -> Option<usize> {
-    *cells.get(cell)?
+/// Returns the first line about each of so many profiles alone.
+fn own_lines(
+    alloc: Global,
+    profiles: usize,
+    lines: &[CheckFault],
+) -> Result<Vec<Option<usize>>, AllocError> {
+    let mut own = Vec::new(alloc);
+    own.resize(profiles, None)?;
+    for (line, fault) in lines.iter().enumerate() {
+        if let Subject::Alone { profile, .. } = subject_of(fault) {
+            note_first(&mut own, profile, line);
+        }
+    }
+    Ok(own)
 }
 
-/// Makes so many rows of so many cells, each empty.
-fn no_pairs(alloc: Global, profiles: usize) -> Result<Vec<Vec<Option<usize>>>, AllocError> {
+/// Notes the line of a profile, unless there is an earlier one.
+fn note_first(own: &mut Vec<Option<usize>>, profile: usize, line: usize) {
+    if profile < own.len() && own[profile].is_none() {
+        own[profile] = Some(line);
+    }
+}
+
+/// Returns the neighbours of each of so many profiles.
+fn neighbours_of_each(
+    alloc: Global,
+    profiles: usize,
+    lines: &[CheckFault],
+) -> Result<Vec<Vec<Neighbour>>, AllocError> {
+    let mut rows = no_neighbours(alloc, profiles)?;
+    for (line, fault) in lines.iter().enumerate() {
+        if let Subject::Pair { writer, other } = subject_of(fault) {
+            note_in(&mut rows, writer, other, line)?;
+            note_in(&mut rows, other, writer, line)?;
+        }
+    }
+    sort_each(&mut rows);
+    Ok(rows)
+}
+
+/// Sorts each row, and keeps the first line about each other profile.
+fn sort_each(rows: &mut Vec<Vec<Neighbour>>) {
+    for own in rows.iter_mut() {
+        own.sort_unstable();
+        own.dedup_by_key(|neighbour| neighbour.profile);
+    }
+}
+
+/// Makes so many empty rows.
+fn no_neighbours(alloc: Global, profiles: usize) -> Result<Vec<Vec<Neighbour>>, AllocError> {
     let mut rows = Vec::with_capacity(alloc, profiles)?;
     for _ in 0..profiles {
-        rows.push(no_lines(alloc, profiles)?)?;
+        rows.push(Vec::new(alloc))?;
     }
     Ok(rows)
 }
 
-/// Makes so many cells, each empty.
-fn no_lines(alloc: Global, profiles: usize) -> Result<Vec<Option<usize>>, AllocError> {
-    let mut cells = Vec::new(alloc);
-    cells.resize(profiles, None)?;
-    Ok(cells)
-}
-
-/// Notes a line in a row.
-fn note_in(rows: &mut Vec<Vec<Option<usize>>>, row: usize, cell: usize, line: usize) {
-    if let Some(cells) = rows.get_mut(row) {
-        note_at(cells, cell, line);
+/// Notes a line with another profile in a row, if both are profiles.
+fn note_in(
+    rows: &mut Vec<Vec<Neighbour>>,
+    row: usize,
+    profile: usize,
+    line: usize,
+) -> Result<(), AllocError> {
+    if profile < rows.len() {
+        if let Some(own) = rows.get_mut(row) {
+            own.push(Neighbour { profile, line })?;
+        }
     }
-}
-
-/// Notes a line in a cell, unless there is one.
-fn note_at(cells: &mut Vec<Option<usize>>, cell: usize, line: usize) {
-    if cell < cells.len() && cells[cell].is_none() {
-        cells[cell] = Some(line);
-    }
+    Ok(())
 }

@@ -35,7 +35,7 @@ pub struct LeftOut {
 ///
 /// A number is left out exactly if a line is about it alone, and the first breach is reported, if there is one. Each other number
 /// is in exactly one round. No line is about two numbers of a round, or about one of them alone. How many numbers a round has
-/// isn't limited. For n numbers, a table of n rows and n columns is kept while they are cut.
+/// isn't limited. What is kept while they are cut grows with the numbers and the lines.
 pub fn rounds_of_lines(
     alloc: Global,
     count: usize,

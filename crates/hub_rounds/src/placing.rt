@@ -1,13 +1,16 @@
 //! Where profiles stand.
-ghost use Rattle.std.specs.Prelude.{◌≡◌, ◌↔◌, ◌<◌, ◌≤◌, ℕ, None, true, false, length, option_map, IfOk, IfSome};
-ghost use Rattle.std.specs.List.{find};
+ghost use Rattle.std.specs.Prelude.{◌≡◌, ◌↔◌, ◌<◌, ◌≤◌, ℕ, None, Some, true, false, length, slice_get, option_map, IfOk, IfSome};
+ghost use Rattle.hub_cert.specs.declared.fault.CheckFault.{CheckFault};
+ghost use Rattle.std.specs.List.{find, list_any};
 ghost use Rattle.hub_rounds.specs.Lines as said;
 ghost use Rattle.hub_rounds.specs.Lines.{HasNoOwnLine, HasOwnLine, IsFirstReason};
+ghost use Rattle.hub_rounds.specs.Named.{AreLinesOf, AreNoted, alone_at};
 ghost use Rattle.hub_rounds.specs.Numbered.{AreNumbersPlaced, AreNumbersSplit, AreRoundsUsed, IsFreeFor};
 ghost use Rattle.hub_rounds.specs.Numbered.{NumberStandsIn, StandsFree};
 ghost use Rattle.hub_rounds.specs.Rounds.{IsPlaced, OpensRounds, is_in_round, is_in_some};
 ghost use Rattle.hub_rounds.specs.declared.placing.Placing.TheVariants.{Round};
 
+use crate::named::Named;
 use crate::subject::{Subject, subject_of};
 use hub_cert::CheckFault;
 use hub_profile::Profile;
@@ -67,9 +70,12 @@ impl Placing {
 pub(crate) fn place_each(
     alloc: Global,
     lines: &[CheckFault],
+    named: &Named,
     colours: &[Option<usize>],
     count: usize,
 ) -> Result<(Vec<Placing>, usize), AllocError>
+    requires noted { AreNoted lines.now named.now.lists.items }
+    requires count { count ≤ length named.now.lists.items }
     ensures all { IfOk result (λ r. length r.0.items ≡ count) }
     ensures told { IfOk result (λ r. AreNumbersPlaced lines.now r.1 r.0.items) }
     ensures split { IfOk result (λ r. AreNumbersSplit lines.now r.0.items) }
@@ -79,7 +85,7 @@ pub(crate) fn place_each(
     let mut seen = Vec::new(alloc);
     for number in 0..count {
         let colour = colour_at(colours, number);
-        let placing = placing_of(&mut seen, lines, colour, placings.as_slice())?;
+        let placing = placing_of(&mut seen, lines, named, colour, placings.as_slice())?;
         placings.push(placing)?;
     }
     Ok((placings, seen.len()))
@@ -90,9 +96,12 @@ pub(crate) fn place_each(
 fn placing_of(
     seen: &mut Vec<usize>,
     lines: &[CheckFault],
+    named: &Named,
     colour: usize,
     placed: &[Placing],
 ) -> Result<Placing, AllocError>
+    requires noted { AreNoted lines.now named.now.lists.items }
+    requires number { length placed.now < length named.now.lists.items }
     ensures told { IfOk result (IsPlaced lines.now (length seen.new.items) (length placed.now)) }
     ensures grows { length seen.old.items ≤ length seen.new.items }
     ensures opened { IfOk result (OpensRounds (length seen.old.items) (length seen.new.items)) }
@@ -100,10 +109,11 @@ fn placing_of(
         (StandsFree lines.now placed.now (length seen.old.items) (length placed.now)) }
 {
     let number = placed.len();
-    match own_reason(lines, number) {
+    let own = named.lines_of(number);
+    match own_reason(lines, own, number) {
         Some(reason) => Ok(Placing::Unplaced(reason)),
         None => {
-            let round = round_of(seen, lines, placed, colour)?;
+            let round = round_of(seen, lines, own, placed, colour)?;
             Ok(Placing::Round(round))
         }
     }
@@ -118,16 +128,37 @@ fn colour_at(colours: &[Option<usize>], number: usize) -> usize {
 }
 
 /// Returns why the profile of that number is in no round, if there is a line about it alone: the first breach, if there is one.
-/// All lines are looked at.
-fn own_reason(lines: &[CheckFault], number: usize) -> Option<Obstacle>
+/// All lines are looked at if one of its own lines is about it alone.
+fn own_reason(lines: &[CheckFault], own: &[usize], number: usize) -> Option<Obstacle>
+    requires { AreLinesOf lines.now own.now number }
     ensures own { IfSome result (HasOwnLine lines.now number) }
     ensures first { IfSome result (IsFirstReason lines.now number) }
     ensures none { result ≡ None → HasNoOwnLine lines.now number }
 {
+    if !has_own_line(lines, own, number) {
+        return None;
+    }
     let line = first_alone(lines, number)?;
     match first_breach(lines, number) {
         Some(own) => reason_of(own, number),
         None => reason_of(line, number),
+    }
+}
+
+/// Returns whether one of these lines is about the profile of that number alone.
+fn has_own_line(lines: &[CheckFault], own: &[usize], number: usize) -> bool
+    ensures { result ≡ list_any (alone_at lines.now number) own.now }
+{
+    own.iter().any(|line| is_alone_at(lines, *line, number))
+}
+
+/// Returns whether the line of that number is about the profile alone.
+fn is_alone_at(lines: &[CheckFault], line: usize, number: usize) -> bool
+    ensures { result ≡ alone_at lines.now number line }
+{
+    match lines.get(line) {
+        Some(own) => is_alone(own, number),
+        None => false,
     }
 }
 
@@ -183,14 +214,16 @@ fn reason_of(line: &CheckFault, number: usize) -> Option<Obstacle>
     }
 }
 
-/// Returns the round of a colour for the next profile. A colour that has none gets the next one, and so does a profile that
-/// isn't free to stand in the round of its colour.
+/// Returns the round of a colour for the next profile, which has these lines of its own. A colour that has none gets the next
+/// one, and so does a profile that isn't free to stand in the round of its colour.
 fn round_of(
     seen: &mut Vec<usize>,
     lines: &[CheckFault],
+    own: &[usize],
     placed: &[Placing],
     colour: usize,
 ) -> Result<usize, AllocError>
+    requires { AreLinesOf lines.now own.now (length placed.now) }
     ensures below { IfOk result (λ k. k < length seen.new.items) }
     ensures grows { length seen.old.items ≤ length seen.new.items }
     ensures opened { IfOk result (λ k. OpensRounds (length seen.old.items) (length seen.new.items)
@@ -198,8 +231,8 @@ fn round_of(
     ensures free { IfOk result (λ k. k < length seen.old.items
         → IsFreeFor lines.now placed.now k (length placed.now)) }
 {
-    if let Some(round) = seen.iter().position(|own| *own == colour) {
-        if is_free_for(lines, placed, round, placed.len()) {
+    if let Some(round) = seen.iter().position(|other| *other == colour) {
+        if is_free_for(lines, own, placed, round, placed.len()) {
             return Ok(round);
         }
     }
@@ -208,16 +241,41 @@ fn round_of(
     Ok(round)
 }
 
-/// Returns whether no profile stands in the round with which that one has a line. All lines are looked at.
-fn is_free_for(lines: &[CheckFault], placed: &[Placing], round: usize, number: usize) -> bool
+/// Returns whether no profile stands in the round with which that one has a line. All its lines are looked at.
+fn is_free_for(
+    lines: &[CheckFault],
+    own: &[usize],
+    placed: &[Placing],
+    round: usize,
+    number: usize,
+) -> bool
+    requires { AreLinesOf lines.now own.now number }
     ensures { result ≡ true → IsFreeFor lines.now placed.now round number }
 {
-    for line in lines {
-        if names_one_of(line, placed, round, number) {
+    for line in own {
+        if names_one_at(lines, *line, placed, round, number) {
             return false;
         }
     }
     true
+}
+
+/// Returns whether the line at that place is about that profile and one that stands in the round.
+fn names_one_at(
+    lines: &[CheckFault],
+    line: usize,
+    placed: &[Placing],
+    round: usize,
+    number: usize,
+) -> bool
+    ensures { result ≡ false → (e : CheckFault) → slice_get lines.now line ≡ Some e
+        → (j : ℕ) → NumberStandsIn placed.now round j
+        → said.names_pair (said.subject_of e) j number ≡ true → ⊥ }
+{
+    match lines.get(line) {
+        Some(own) => names_one_of(own, placed, round, number),
+        None => false,
+    }
 }
 
 /// Returns whether the line is about that profile and one that stands in the round.

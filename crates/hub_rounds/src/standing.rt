@@ -33,7 +33,7 @@ pub(crate) fn standing_of(
     let graph = Graph::new(alloc, &named)?;
     let clique = largest_clique(alloc, graph.as_ref())?;
     let colours = colours_of(alloc, &named, graph.as_ref(), clique.len())?;
-    let (placings, rounds) = place_each(alloc, lines, colours.as_slice(), count)?;
+    let (placings, rounds) = place_each(alloc, lines, &named, colours.as_slice(), count)?;
     let rivals = rivals_of(alloc, lines, &named, placings.as_slice(), clique.as_slice())?;
     Ok(Standing {
         placings: Items::from_vec(placings),

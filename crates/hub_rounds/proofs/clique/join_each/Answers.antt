@@ -6,7 +6,7 @@ use Rattle.hub_rounds.proofs.clique.join_each.Goals as goal
 use Rattle.hub_rounds.proofs.clique.join_each.Goals.{then-may_join_surely+in_ok-push, else-may_join_surely}
 
 pub loop-profile-init : goal.loop-profile-init
-loop-profile-init c = none-asked c.args.lines.now c.args.placed.now c.args.rivals.now.items c.requires
+loop-profile-init c = none-asked c.args.lines.now c.args.placed.now c.args.rivals.now.items c.requires.rivals
 
 pub loop-profile-preserved : goal.loop-profile-preserved
 loop-profile-preserved c =

@@ -5,5 +5,5 @@ use Rattle.hub_rounds.specs.Numbered.{NumberStandsIn}
 use Rattle.hub_rounds.proofs.placing.is_free_for.Given as goal
 
 abbrev pub invariant-loop-line : goal.invariant-loop-line
-invariant-loop-line l = (m : ℕ) (e : CheckFault) → m < l.line-index → slice_get l.lines m ≡ Some e
+invariant-loop-line l = (k m : ℕ) → k < l.line-index → slice_get l.own k ≡ Some m → (e : CheckFault) → slice_get l.lines m ≡ Some e
     → (j : ℕ) → NumberStandsIn l.placed l.round j → names_pair (subject_of e) j l.number ≡ true → ⊥

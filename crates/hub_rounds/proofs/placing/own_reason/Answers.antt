@@ -1,10 +1,16 @@
-use Rattle.std.proofs.Common.{sym}
+use Rattle.std.proofs.Common.{◌∙◌, sym}
 use Rattle.hub_cert.specs.declared.fault.CheckFault.{CheckFault}
 use Rattle.hub_rounds.specs.Lines.{names_alone, subject_of, tells_breach}
+use Rattle.hub_rounds.proofs.LineLists.{none-own}
 use Rattle.hub_rounds.proofs.Reasons.{first-breach-tells, no-breach-tells, none-alone, own-line, some-breach, some-reason}
 use Rattle.hub_rounds.proofs.placing.own_reason.Goals as goal
 
--- No line is about it alone.
+-- None of its lines is about it alone.
+pub returns-then-not-has_own_line-clause-none : goal.returns-then-not-has_own_line-clause-none
+returns-then-not-has_own_line-clause-none c = λ e.
+    none-own c.args.lines.now c.args.own.now c.args.number c.requires (sym c.has_own_line.ensures ∙ c.if-not-has_own_line.true)
+
+-- No line is.
 pub returns-in_err-line-clause-none : goal.returns-in_err-line-clause-none
 returns-in_err-line-clause-none c = λ e. none-alone c.args.lines.now c.args.number (sym c.in_err-line.ensures)
 

@@ -1,7 +1,0 @@
-use Rattle.std.proofs.Common.{List, ℕ, sym, subst}
-use Rattle.hub_rounds.specs.Numbered.{AreRivalNumbers}
-use Rattle.hub_rounds.proofs.Rivals.{no-rivals}
-use Rattle.hub_rounds.proofs.clique.rivals_by_turns.Goals as goal
-
-pub loop-first-init : goal.loop-first-init
-loop-first-init c = subst (λ (ns : List ℕ). AreRivalNumbers c.args.lines.now c.args.placed.now ns) (sym c.new-longest.ensures.items) (no-rivals c.args.lines.now c.args.placed.now)

@@ -1,7 +1,0 @@
-use Rattle.std.proofs.Common.{List, ℕ, sym, subst}
-use Rattle.hub_rounds.specs.Numbered.{AreRivalNumbers}
-use Rattle.hub_rounds.proofs.Rivals.{no-rivals}
-use Rattle.hub_rounds.proofs.clique.rivals_from.Goals as goal
-
-pub join-requires : goal.join-requires
-join-requires c = subst (λ (ns : List ℕ). AreRivalNumbers c.args.lines.now c.args.placed.now ns) (sym c.new-rivals.ensures.items) (no-rivals c.args.lines.now c.args.placed.now)

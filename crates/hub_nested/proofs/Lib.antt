@@ -1,0 +1,10 @@
+pub mod Asides
+pub mod Backwards
+pub mod Breaching
+pub mod Clashing
+pub mod Fronts
+pub mod KeptValues
+pub mod Meetings
+pub mod Reaching
+pub mod SaidParts
+pub mod Writing

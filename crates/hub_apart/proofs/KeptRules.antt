@@ -56,7 +56,7 @@ unless : (b : Bool) (a : Aim) → cond b None None ≡ Some a → ⊥
 unless true a e = none-some a e
 unless false a e = none-some a e
 
-no-clash : (P : Parts) (Rs : List Rule) (w o : ℕ) (place : Place) (a : Aim) → aim_of (set_of_one P Rs) (goal.Clash w o place) ≡ Some a → ⊥
+pub no-clash : (P : Parts) (Rs : List Rule) (w o : ℕ) (place : Place) (a : Aim) → aim_of (set_of_one P Rs) (goal.Clash w o place) ≡ Some a → ⊥
 no-clash P Rs zero zero place a is = none-some a is
 no-clash P Rs zero (suc o) place a is = unless (0 == suc o) a is
 no-clash P Rs (suc w) o place a is = unless (suc w == o) a is

@@ -3,8 +3,12 @@ pub mod InUnison
 pub mod Items
 pub mod Joining
 pub mod KeptRules
+pub mod LastNames
 pub mod LinesOfEach
 pub mod LinesOfPairs
+pub mod NestedBreaches
+pub mod NestedClashes
+pub mod NestedParts
 pub mod NestedRoots
 pub mod Numbers
 pub mod Readings

@@ -9,9 +9,9 @@ use Rattle.hub_text.specs.laws.List.{has-item, less-or-same, some-item, snoc-new
 use Rattle.hub_profile.specs.Parts.{Parts}
 use Rattle.hub_profile.specs.declared.rule.Rule.{Rule}
 use Rattle.hub_search.specs.Faults.{AreFaults}
-use Rattle.hub_cert.specs.Refused.{IsRefused}
 use Rattle.hub_cert.specs.declared.fault.CheckFault.{CheckFault}
-use Rattle.hub_apart.specs.ApartLines.{Adds, AreLinesOfOne, HasLinesOfOne, set_of, set_of_one}
+use Rattle.hub_apart.specs.ApartLines.{Adds, set_of_one}
+use Rattle.hub_apart.specs.NestedLines.{AreLinesBeside, HasLinesBeside, IsRefusedBeside}
 use Rattle.hub_apart.specs.UnisonLines.{AreLinesOfEach, IsRefusedOne, beside}
 
 pub no-profiles : (Rs : List Rule) → AreLinesOfEach [] Rs []
@@ -25,15 +25,15 @@ pub no-rules : (Ps : List Parts) → AreLinesOfEach Ps [] []
 no-rules Ps = record {
   of_one = λ i l.
       let p = has-item Ps i l in
-      ([], record { profile = p.0; at = p.1; lines = ([], no-goals p.0, refl) }, λ e has. has);
+      ([], record { profile = p.0; at = p.1; lines = inr (refl, ([], no-goals p.0, refl)) }, λ e has. has);
   each = λ e has. let l = has.1 in absurd (omega (arith, l));
 }
 
-one-more : (Ps : List Parts) (Q : Parts) (Rs : List Rule) (i : ℕ) (own : List CheckFault) → HasLinesOfOne (set_of Ps Rs) i own
-    → HasLinesOfOne (set_of (Ps ++ Q ∷ []) Rs) i own
+one-more : (Ps : List Parts) (Q : Parts) (Rs : List Rule) (i : ℕ) (own : List CheckFault) → HasLinesBeside Ps Rs i own
+    → HasLinesBeside (Ps ++ Q ∷ []) Rs i own
 one-more Ps Q Rs i own h = record { profile = h.profile; at = snoc-old Ps Q h.profile i h.at; lines = h.lines }
 
-each-more : (Ps : List Parts) (Q : Parts) (Rs : List Rule) (es own : List CheckFault) → AreLinesOfEach Ps Rs es → AreLinesOfOne Q Rs (length Ps) own
+each-more : (Ps : List Parts) (Q : Parts) (Rs : List Rule) (es own : List CheckFault) → AreLinesOfEach Ps Rs es → AreLinesBeside Q Rs (length Ps) own
     → AreLinesOfEach (Ps ++ Q ∷ []) Rs (es ++ own)
 each-more Ps Q Rs es own old new = record {
   of_one = λ i l. ⊎_elim
@@ -43,7 +43,7 @@ each-more Ps Q Rs es own old new = record {
         record {
           profile = Q;
           at = ap (slice_get (Ps ++ Q ∷ [])) same ∙ snoc-new Ps Q;
-          lines = subst (λ k. AreLinesOfOne Q Rs k own) (sym same) new;
+          lines = subst (λ k. AreLinesBeside Q Rs k own) (sym same) new;
         },
         λ e has. Contains-append_right es own e has,
       ))
@@ -55,7 +55,7 @@ each-more Ps Q Rs es own old new = record {
 }
 
 pub one-profile-more : (Ps : List Parts) (Q : Parts) (Rs : List Rule) (old mid new : List CheckFault) → Adds (AreLinesOfEach Ps Rs) old mid
-    → Adds (AreLinesOfOne Q Rs (length Ps)) mid new → Adds (AreLinesOfEach (Ps ++ Q ∷ []) Rs) old new
+    → Adds (AreLinesBeside Q Rs (length Ps)) mid new → Adds (AreLinesOfEach (Ps ++ Q ∷ []) Rs) old new
 one-profile-more Ps Q Rs old mid new a b = (
   a.0 ++ b.0,
   each-more Ps Q Rs a.0 b.0 a.1 b.1,
@@ -63,9 +63,9 @@ one-profile-more Ps Q Rs old mid new a b = (
 )
 
 -- What is refused of one of the profiles.
-pub refused-one : (Ps : List Parts) (Rs : List Rule) (i : ℕ) (P : Parts) (e : CheckFault) → slice_get Ps i ≡ Some P → IsRefused (set_of_one P Rs) e
+pub refused-one : (Ps : List Parts) (Rs : List Rule) (i : ℕ) (P : Parts) (e : CheckFault) → slice_get Ps i ≡ Some P → IsRefusedBeside P Rs e
     → IsRefusedOne Ps Rs e
-refused-one Ps Rs i P e at h = inr (set_of_one P Rs, (i, P, at, refl), h)
+refused-one Ps Rs i P e at h = inr (i, P, at, h)
 
 pub none-added : (Ps : List Parts) (Rs : List Rule) → (length Rs == 0) ≡ true → (old : List CheckFault) → Adds (AreLinesOfEach (beside Rs Ps) Rs) old old
 none-added Ps [] none old = ([], no-rules (beside [] Ps), sym (append-nil old))

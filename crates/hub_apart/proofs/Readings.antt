@@ -5,7 +5,7 @@ use Rattle.std.specs.List.{list_all}
 use Rattle.hub_profile.specs.Parts.{IsProfile, Parts}
 use Rattle.hub_profile.specs.declared.rule.Rule.{Rule}
 use Rattle.hub_unison.specs.Cautious.{has_star, with_patterns, with_tops}
-use Rattle.hub_unison.specs.ReadingOf.{all_kept, cautious_of, kept_bars, reading_of, spare_stays, top_values, with_kept}
+use Rattle.hub_unison.specs.ReadingOf.{cautious_of, each_kept, kept_bars, reading_of, spare_stays, top_values, with_kept}
 use Rattle.hub_unison.specs.Matching.{widened}
 use Rattle.hub_unison.specs.Rules.{for_rules}
 use Rattle.hub_apart.specs.UnisonLines.{AreValid, beside, cautious, wide}
@@ -16,7 +16,7 @@ abbrev by_case : Parts → Bool → Bool → Parts
 by_case P b c =
     if b then with_tops P (top_values P.paths) (kept_bars P.partial)
     else (if c
-    then with_kept P (all_kept P.ignore (map widened P.ignorenot)) (map widened P.ignorenot) (kept_bars P.partial)
+    then with_kept P (each_kept P.ignore (map widened P.ignorenot)) (map widened P.ignorenot) (kept_bars P.partial)
     else with_patterns P [] [] (kept_bars P.partial))
 
 pub wide-is : (R : Rule) (Rs : List Rule) (P : Parts) → IsProfile (cautious_of P) → wide (cautious_of P) ≡ reading_of (R ∷ Rs) P

@@ -78,7 +78,7 @@ apart-bits : (e a b : Bool) → (not e && (a || b)) ≡ false → (a || b) ≡ t
 apart-bits true a b h k = refl
 apart-bits false a b h k = absurd (false≢true (sym h ∙ k))
 
-not-nested : (r s : Path) → is_nested r s ≡ false → (is_over r s || is_over s r) ≡ true → r ≡ s
+pub not-nested : (r s : Path) → is_nested r s ≡ false → (is_over r s || is_over s r) ≡ true → r ≡ s
 not-nested r s h o = (path_eq-decides r s).0 (apart-bits (path_eq r s) (is_over r s) (is_over s r) h o)
 
 cross : (P Q : Parts) (r s : Path) → have_nested P Q ≡ false → At P.roots r → At Q.roots s → is_nested r s ≡ false
@@ -150,19 +150,21 @@ module _ (P Q : Parts) where
     line-names g a _ is not_memory t = absurd t
 
     -- Without a line that names both, each of their goals is ruled out.
-    inductive : RestShown → (found own lines : List CheckFault) → AreFaults (set_of_two P Q) found → own ≡ map (line_among i j) found
+    pub inductive : RestShown → (f : CheckFault → CheckFault) → ((e : CheckFault) → subject_of (f e) ≡ subject_of (line_among i j e))
+        → (found own lines : List CheckFault) → AreFaults (set_of_two P Q) found → own ≡ map f found
         → ((e : CheckFault) → Contains own e → Contains lines e) → (HasPair lines i j → ⊥) → AllInductive (set_of_two P Q)
-    inductive rest found own lines faults is among none g a aim opens =
+    inductive rest f same found own lines faults is among none g a aim opens =
         go (rest (set_of_two P Q) found g faults (ap (some_passes is_open_aim) aim ∙ opens))
       where
         go : HasInductiveTexts (set_of_two P Q) g ⊎ HasLine (set_of_two P Q) found g → (ts : List (List ℕ)) × IsInductive a ts
         go (inl h) = h a aim
         go (inr line) =
-            let e = line_among i j line.0 in
-            let has : Contains own e = subst (λ es. Contains es e) (sym is) (to-map (line_among i j) found line.0 line.1) in
-            absurd (none (e, among e has, line-names g a line.0 aim line.2.0 (line.2.1 a aim)))
+            let e = f line.0 in
+            let has : Contains own e = subst (λ es. Contains es e) (sym is) (to-map f found line.0 line.1) in
+            let names = ap (λ s. names_pair s i j) (same line.0) ∙ line-names g a line.0 aim line.2.0 (line.2.1 a aim) in
+            absurd (none (e, among e has, names))
 
-itself : (i j : ℕ) → names_pair (subject_of (nested_line i j)) i j ≡ true
+pub itself : (i j : ℕ) → names_pair (subject_of (nested_line i j)) i j ≡ true
 itself i j = grind (arith, nat_tests)
 
 pub two-safe : RestShown → MadeSafe → (P Q : Parts) (i j : ℕ) (own lines : List CheckFault) → IsProfile P → IsProfile Q → AreLinesOfTwo P Q i j own
@@ -171,4 +173,4 @@ two-safe rest made P Q i j own lines valid other (inl nested) among none =
     absurd (none (nested_line i j, among (nested_line i j) (subst (λ es. Contains es (nested_line i j)) (sym nested.1) (cons-here (nested_line i j) (nested_line i j) [] refl)), itself i j))
 two-safe rest made P Q i j own lines valid other (inr apart) among none =
     made (set_of_two P Q) (two-valid P Q valid other) (two-apart P Q valid other apart.0)
-    (inductive P Q i j rest apart.1.0 own lines apart.1.1 apart.1.2 among none)
+    (inductive P Q i j rest (line_among i j) (λ e. refl) apart.1.0 own lines apart.1.1 apart.1.2 among none)

@@ -1,5 +1,6 @@
 pub mod Apart
 pub mod ApartLines
+pub mod NestedLines
 pub mod Ordered
 pub mod UnisonLines
 pub mod UnsafeParts

@@ -11,7 +11,8 @@ use Rattle.hub_cert.specs.declared.fault.CheckFault.TheVariants as fault
 use Rattle.hub_parts.specs.Clashing.{AreNearPairs}
 use Rattle.hub_unison.specs.ReadingOf.{cautious_of, reading_of}
 use Rattle.hub_unison.specs.Rules.{for_rules}
-use Rattle.hub_apart.specs.ApartLines.{Adds, AreAmong, HasLinesOfOne, HasLinesOfTwo, IsSetOfOne, IsSetOfTwo, set_of}
+use Rattle.hub_apart.specs.ApartLines.{Adds, AreAmong}
+use Rattle.hub_apart.specs.NestedLines.{HasLinesBeside, HasLinesOfNear, IsRefusedBeside, IsRefusedNear}
 
 -- The readings of profiles: the cautious ones, and those beside rules. The latter are the same
 -- beside any rules, and are the cautious ones if there are none.
@@ -25,17 +26,17 @@ beside Rs Ps = map (reading_of Rs) Ps
 pub record AreLinesOfPairs (Ps : List Parts) (pairs : List (ℕ × ℕ)) (es : List CheckFault)
     : Type 0 where
   pub of_two : (i j : ℕ) → Contains pairs (i, j)
-      → (own : List CheckFault) × HasLinesOfTwo Ps i j own × AreAmong own es
+      → (own : List CheckFault) × HasLinesOfNear Ps i j own × AreAmong own es
   pub each : (e : CheckFault) → Contains es e → (own : List CheckFault) × Contains own e
-      × ((i : ℕ) × (j : ℕ) × Contains pairs (i, j) × HasLinesOfTwo Ps i j own)
+      × ((i : ℕ) × (j : ℕ) × Contains pairs (i, j) × HasLinesOfNear Ps i j own)
 
 -- The lines of each profile alone with the rules, and no others.
 pub record AreLinesOfEach (Ps : List Parts) (Rs : List Rule) (es : List CheckFault)
     : Type 0 where
   pub of_one : (i : ℕ) → i < length Ps
-      → (own : List CheckFault) × HasLinesOfOne (set_of Ps Rs) i own × AreAmong own es
+      → (own : List CheckFault) × HasLinesBeside Ps Rs i own × AreAmong own es
   pub each : (e : CheckFault) → Contains es e → (own : List CheckFault) × Contains own e
-      × ((i : ℕ) × HasLinesOfOne (set_of Ps Rs) i own)
+      × ((i : ℕ) × HasLinesBeside Ps Rs i own)
 
 -- The lines of profiles and rules in Unison: those of each near pair of cautious readings, and then
 -- those of each reading beside the rules. Other pairs have no lines.
@@ -50,14 +51,17 @@ pub record AreLinesInUnison (Ps : List Parts) (Rs : List Rule) (es : List CheckF
   pub all : es ≡ of_pairs ++ of_each
 
 -- Why there are no such lines: memory is out, or a reading with the rules makes no set, or two
--- cautious readings without nested roots don't.
+-- cautious readings don't.
 abbrev pub IsRefusedOne : List Parts → List Rule → CheckFault → Type 0
 IsRefusedOne Ds Rs e =
-    (e ≡ fault.OutOfMemory) ⊎ ((T : Members) × IsSetOfOne (set_of Ds Rs) T × IsRefused T e)
+    (e ≡ fault.OutOfMemory)
+    ⊎ ((i : ℕ) × (D : Parts) × (slice_get Ds i ≡ Some D) × IsRefusedBeside D Rs e)
 
 abbrev pub IsRefusedPair : List Parts → CheckFault → Type 0
 IsRefusedPair Cs e =
-    (e ≡ fault.OutOfMemory) ⊎ ((T : Members) × IsSetOfTwo (set_of Cs []) T × IsRefused T e)
+    (e ≡ fault.OutOfMemory)
+    ⊎ ((i : ℕ) × (j : ℕ) × (C : Parts) × (D : Parts) × (i < j) × (slice_get Cs i ≡ Some C)
+    × (slice_get Cs j ≡ Some D) × IsRefusedNear C D e)
 
 abbrev pub IsRefusedInUnison : List Parts → List Rule → CheckFault → Type 0
 IsRefusedInUnison Ps Rs e =

@@ -87,7 +87,7 @@ fn nests_profile(profiles: &[Profile], root: &Root) -> bool
 }
 
 /// Returns whether the root and that of a rule are nested.
-fn nests_rule_root(rules: &[Rule], root: &Root) -> bool
+pub(crate) fn nests_rule_root(rules: &[Rule], root: &Root) -> bool
     ensures { result ≡ list_any (λ R. refused.is_nested root.now R.root) rules.now }
 {
     rules.iter().any(|rule| is_nested(root, &rule.root))
@@ -111,7 +111,7 @@ pub(crate) fn have_nested(profile: &Profile, other: &Profile) -> bool
 }
 
 /// Returns whether a root and one of these are nested.
-fn nests_any(root: &Root, others: &[Root]) -> bool
+pub(crate) fn nests_any(root: &Root, others: &[Root]) -> bool
     ensures { result ≡ said.nests_any root.now others.now }
 {
     others.iter().any(|other| is_nested(root, other))

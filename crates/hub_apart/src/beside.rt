@@ -4,7 +4,7 @@ ghost use Rattle.hub_apart.specs.UnisonLines as said;
 ghost use Rattle.hub_apart.specs.UnisonLines.{OfCautious};
 ghost use Rattle.hub_unison.specs.Rules.{rule_bars};
 
-use crate::searched::search_one;
+use crate::ruled::search_ruled;
 use hub_cert::CheckFault;
 use hub_profile::{Bars, Profile, Rules};
 use hub_text::Items;
@@ -59,7 +59,7 @@ fn search_each_alone(
     let mut all = Vec::with_capacity(alloc, profiles.len())?;
     let mut rules = rules;
     for profile in profiles {
-        let (profile, kept) = search_one(alloc, profile, rules, all.len(), lines)?;
+        let (profile, kept) = search_ruled(alloc, profile, rules, all.len(), lines)?;
         all.push(profile)?;
         rules = kept;
     }

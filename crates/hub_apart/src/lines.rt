@@ -64,7 +64,7 @@ pub(crate) fn push_lines(
 }
 
 /// The line with the numbers that the profiles have among all.
-fn line_among(numbers: Numbers, line: CheckFault) -> CheckFault
+pub(crate) fn line_among(numbers: Numbers, line: CheckFault) -> CheckFault
     ensures { result ≡ said.line_among numbers.first numbers.second line }
 {
     match line {
@@ -119,7 +119,7 @@ fn goal_among(numbers: Numbers, goal: Goal) -> Goal
 }
 
 /// The number of the first or of the second profile.
-fn number_of(numbers: Numbers, number: usize) -> usize
+pub(crate) fn number_of(numbers: Numbers, number: usize) -> usize
     ensures { result ≡ said.number_of numbers.first numbers.second number }
 {
     if number == 0 {

@@ -1,10 +1,11 @@
 //! Pairs of profiles, by their numbers, whose two profiles are searched together.
 ghost use Rattle.std.specs.Prelude.{◌≡◌, ◌≤◌, length, IfErr, IfOk, OnOk};
-ghost use Rattle.hub_apart.specs.ApartLines.{Adds, HasLinesOfTwo};
+ghost use Rattle.hub_apart.specs.ApartLines.{Adds};
+ghost use Rattle.hub_apart.specs.NestedLines.{HasLinesOfNear};
 ghost use Rattle.hub_apart.specs.UnisonLines as said;
 
 use crate::lines::Numbers;
-use crate::searched::search_two;
+use crate::nested::search_near;
 use hub_cert::CheckFault;
 use hub_profile::Profile;
 use std::alloc::{AllocError, Global};
@@ -38,7 +39,7 @@ fn search_pair(
 ) -> Result<Vec<Profile>, CheckFault>
     requires { said.IsWithin (length profiles.items) pair }
     ensures profiles { IfOk result (λ r. r.items ≡ profiles.items) }
-    ensures lines { OnOk result (Adds (HasLinesOfTwo profiles.items pair.0 pair.1)
+    ensures lines { OnOk result (Adds (HasLinesOfNear profiles.items pair.0 pair.1)
         lines.old.items lines.new.items) }
     ensures refused { IfErr result (said.IsRefusedPair profiles.items) }
 {
@@ -49,7 +50,7 @@ fn search_pair(
         first: pair.0,
         second: pair.1,
     };
-    let (first, second) = search_two(alloc, first, second, numbers, lines)?;
+    let (first, second) = search_near(alloc, first, second, numbers, lines)?;
     put_back(&mut profiles, pair.0, first)?;
     put_back(&mut profiles, pair.1, second)?;
     Ok(profiles)

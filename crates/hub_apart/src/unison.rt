@@ -13,17 +13,17 @@ use hub_unison::read_set;
 use std::alloc::Global;
 
 /// Searches profiles, as hubsync reads them, and rules for what may clash or break a rule in Unison. Each two near profiles are
-/// searched together by their cautious readings (`hub_unison::cautious`) and without the rules, if no roots of them are nested.
-/// Then the reading of each profile beside the rules is searched with them. Nothing is copied: the readings beside the rules
-/// (`hub_unison::read_set`) and the rules are given back, in their order.
+/// searched together by their cautious readings (`hub_unison::cautious`) and without the rules. Then the reading of each profile
+/// beside the rules is searched with them. Where roots are nested, each two roots that meet are searched by themselves, and each rule
+/// is, counted from the upper root (`hub_nested`). The readings beside the rules (`hub_unison::read_set`) and the rules are given
+/// back, in their order.
 ///
 /// Two profiles that aren't near have no line: they can't clash ([`hub_parts::pairs_of_profiles`]). The reading beside rules has no
 /// part in pairs. So a rule makes no two profiles clash, and each part has an alphabet and limits of its own. How many profiles
 /// there are isn't limited. See [`crate::laws`] for what lines say that aren't there.
 ///
 /// The profiles are lost if there is a fault, by which a part is no set: `AlphabetFault` if its characters or spots are too many,
-/// `SameName` if two near profiles have one name, `NestedRoots` if the root of a rule is nested with another root; or
-/// `OutOfMemory`.
+/// `SameName` if two near profiles have one name; or `OutOfMemory`.
 pub fn lines_in_unison(
     alloc: Global,
     profiles: Items<Profile>,

@@ -5,8 +5,8 @@ use Rattle.std.proofs.lemmas.Option.{slice_get_read}
 use Rattle.hub_text.specs.laws.Fails.{passed-up}
 use Rattle.hub_profile.specs.Parts.{Parts}
 use Rattle.hub_profile.specs.declared.rule.Rule.{Rule}
-use Rattle.hub_cert.specs.Refused.{IsRefused}
-use Rattle.hub_apart.specs.ApartLines.{Adds, AreLinesOfOne, set_of_one}
+use Rattle.hub_apart.specs.ApartLines.{Adds}
+use Rattle.hub_apart.specs.NestedLines.{AreLinesBeside, IsRefusedBeside}
 use Rattle.hub_apart.specs.UnisonLines.{IsRefusedOne}
 use Rattle.hub_apart.proofs.LinesOfEach.{no-profiles, one-profile-more, refused-one}
 use Rattle.hub_apart.proofs.beside.search_each_alone.Goals as goal
@@ -28,7 +28,7 @@ returns-in_err-profile-clause-refused c =
     let e = c.in_err-profile.field-0.0 in
     passed-up c.from_residual-in_err-profile.result e (IsRefusedOne all c.args.rules) c.from_residual-in_err-profile.ensures.1
     (refused-one all c.args.rules (length Ps) P e at
-    (subst (λ (Rs : List Rule). IsRefused (set_of_one P Rs) e) c.loop-profile.invariant.rules c.in_err-profile.ensures.refused))
+    (subst (λ (Rs : List Rule). IsRefusedBeside P Rs e) c.loop-profile.invariant.rules c.in_err-profile.ensures.refused))
 
 pub loop-profile-preserved : goal.loop-profile-preserved
 loop-profile-preserved c =
@@ -36,9 +36,9 @@ loop-profile-preserved c =
     let P = c.in-Some.profile in
     let i = c.loop-profile.invariant in
     let mid = c.loop-profile.lines.items in
-    let new = c.search_one.new.lines.items in
-    let at_number = subst (λ (n : ℕ). Adds (AreLinesOfOne P c.loop-profile.rules n) mid new) (c.len-in-loop-profile.ensures ∙ (c.loop-profile.all.ok.0 ∙ ap (λ (Qs : List Parts). length Qs) i.all)) c.in_ok-profile.ensures.lines in
-    let one = subst (λ (Rs : List Rule). Adds (AreLinesOfOne P Rs (length Ps)) mid new) i.rules at_number in
+    let new = c.search_ruled.new.lines.items in
+    let at_number = subst (λ (n : ℕ). Adds (AreLinesBeside P c.loop-profile.rules n) mid new) (c.len-in-loop-profile.ensures ∙ (c.loop-profile.all.ok.0 ∙ ap (λ (Qs : List Parts). length Qs) i.all)) c.in_ok-profile.ensures.lines in
+    let one = subst (λ (Rs : List Rule). Adds (AreLinesBeside P Rs (length Ps)) mid new) i.rules at_number in
     record {
       all = c.in_ok-push.ensures.items ∙ ap₂ (λ (Qs : List Parts) (Q : Parts). Qs ++ Q ∷ []) i.all c.in_ok-profile.ensures.profile;
       rules = c.in_ok-profile.ensures.rules ∙ i.rules;

@@ -71,7 +71,7 @@ returns-clause-lines c =
     let first = c.swap_remove-first.ensures in
     let kept = later.by_index.1 i x (λ same. omega (arith, same, c.requires.0)) (omega (arith, c.requires.0, c.requires.1, c.args.profiles.ok.0)) in
     let long : length fewer + 1 ≡ length all = omega (arith, later.len, c.args.profiles.ok.0, c.swap_remove-second.new.self.ok.0) in
-    added-pair all i j x y c.args.lines.now.items c.search_two.new.lines.items c.requires.0
+    added-pair all i j x y c.args.lines.now.items c.search_near.new.lines.items c.requires.0
     (first-at all fewer least i j x y c.requires.0 c.requires.1 later.value later.items kept long first.value first.items)
     (later-at all fewer least i j x y c.requires.0 c.requires.1 later.value later.items kept long first.value first.items)
     c.in_ok-first.ensures.lines

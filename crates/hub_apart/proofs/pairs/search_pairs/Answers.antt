@@ -2,7 +2,8 @@ use Rattle.std.proofs.Common.{◌∙◌, ℕ, List, length, take, get_or, sym, s
 use Rattle.std.proofs.lemmas.List.{take_more}
 use Rattle.std.proofs.lemmas.List.Elements.{Contains-get_or}
 use Rattle.hub_profile.specs.Parts.{Parts}
-use Rattle.hub_apart.specs.ApartLines.{Adds, HasLinesOfTwo}
+use Rattle.hub_apart.specs.ApartLines.{Adds}
+use Rattle.hub_apart.specs.NestedLines.{HasLinesOfNear}
 use Rattle.hub_apart.specs.UnisonLines.{AreLinesOfPairs, IsWithin}
 use Rattle.hub_apart.proofs.LinesOfPairs.{one-pair-more}
 use Rattle.hub_apart.proofs.pairs.search_pairs.Goals as goal
@@ -24,7 +25,7 @@ loop-pair-preserved c =
     let mid = c.loop-pair.lines.items in
     let new = c.search_pair.new.lines.items in
     let i = c.loop-pair.invariant in
-    let own = subst (λ (Qs : List Parts). Adds (HasLinesOfTwo Qs pair.0 pair.1) mid new) i.profiles c.in_ok-profiles.ensures.lines in
+    let own = subst (λ (Qs : List Parts). Adds (HasLinesOfNear Qs pair.0 pair.1) mid new) i.profiles c.in_ok-profiles.ensures.lines in
     record {
       profiles = c.in_ok-profiles.ensures.profiles ∙ i.profiles;
       lines = subst (λ (ps : List (ℕ × ℕ)). Adds (AreLinesOfPairs Ps ps) old new) (sym (take_more pairs k (0, 0) c.loop-pair-test.true))

@@ -1,2 +1,3 @@
 pub mod Grown
 pub mod InOrder
+pub mod NamesOfPaths

@@ -12,8 +12,9 @@ use Rattle.hub_cert.specs.declared.goal.Goal.{Goal}
 use Rattle.hub_cert.specs.declared.goal.Goal.TheVariants.{Clash, Breach}
 use Rattle.hub_search.specs.declared.reached.TheConstants.{STAGES}
 use Rattle.hub_report.specs.Archive.{archive_lines}
+use Rattle.hub_report.specs.NestedOverlap.{unison_shown}
 use Rattle.hub_report.specs.Plan.{nested_why}
-use Rattle.hub_report.specs.Refusal.{joined, name_at, shown_line, shown_place_of}
+use Rattle.hub_report.specs.Refusal.{joined, name_at, shown_place_of}
 
 -- The line of a clash that has more stages than are searched: who writes and where, and who reaches;
 -- and of such a breach.
@@ -37,7 +38,7 @@ large_line Ps (Breach p r) = large_breach_line (name_at Ps p) r STAGES
 abbrev pub unison_line : Members → CheckFault → List ℕ
 unison_line S (fault.TooLarge g) = large_line S.profiles g
 unison_line S (fault.Missing g) = nested_why S.profiles g
-unison_line S e = shown_line S e
+unison_line S e = unison_shown S e
 
 -- The same of profiles and rules.
 abbrev pub unison_line_in : List Parts → List Rule → CheckFault → List ℕ

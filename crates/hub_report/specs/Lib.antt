@@ -14,6 +14,7 @@ pub mod FaultyInput
 pub mod ReachAnswer
 pub mod Verdict
 pub mod ClashesAnswer
+pub mod NestedOverlap
 pub mod Plan
 pub mod Alone
 pub mod PlanAnswer

@@ -16,7 +16,8 @@ use Rattle.hub_rounds.specs.declared.subject.Subject.{Subject}
 use Rattle.hub_rounds.specs.declared.subject.Subject.TheVariants.{Pair, Alone, Nothing}
 use Rattle.hub_report.specs.Archive.{archive_line}
 use Rattle.hub_report.specs.Faults.{profile_fault_name}
-use Rattle.hub_report.specs.Refusal.{joined, name_at, shown_line}
+use Rattle.hub_report.specs.NestedOverlap.{unison_shown}
+use Rattle.hub_report.specs.Refusal.{joined, name_at}
 use Rattle.hub_report.specs.declared.plan.Roster.{Roster}
 use Rattle.hub_report.specs.declared.plan.Unread.{Unread}
 
@@ -90,7 +91,7 @@ nested_why Ps (Breach p r) = []
 abbrev pub why_of : Members → CheckFault → List ℕ
 why_of S (fault.TooLarge g) = undecided_why STAGES
 why_of S (fault.Missing g) = nested_why S.profiles g
-why_of S e = shown_line S e
+why_of S e = unison_shown S e
 
 -- The same of profiles and rules.
 abbrev pub why_in : List Parts → List Rule → CheckFault → List ℕ

@@ -5,8 +5,9 @@ ghost use Rattle.hub_report.specs.Refusal.{shown_place_of};
 ghost use Rattle.hub_report.specs.Texts.{Gains};
 
 use crate::archive::push_archives;
+use crate::overlap::unison_shown;
 use crate::plan::nested_why;
-use crate::refusal::{name_at, place_text, shown_line};
+use crate::refusal::{name_at, place_text};
 use hub_cert::{CheckFault, Goal, Place};
 use hub_profile::{Profile, Rule};
 use hub_search::STAGES;
@@ -62,7 +63,7 @@ pub fn line_in_unison(
     match fault {
         CheckFault::TooLarge { goal } => large_line(alloc, profiles, *goal),
         CheckFault::Missing { goal } => nested_why(alloc, profiles, *goal),
-        _ => shown_line(alloc, profiles, rules, fault),
+        _ => unison_shown(alloc, profiles, rules, fault),
     }
 }
 

@@ -65,6 +65,7 @@ mod graph;
 mod in_unison;
 mod jobs;
 mod mended;
+mod overlap;
 mod pair;
 mod parts;
 mod plan;

@@ -5,9 +5,10 @@ ghost use Rattle.hub_report.specs.Texts.{Gains};
 
 use crate::archive::archive_line;
 use crate::faults::profile_fault_name;
+use crate::overlap::unison_shown;
 use crate::parts::{joined, push_all};
 use crate::plan_order::{is_whole, order_line, order_of};
-use crate::refusal::{name_at, shown_line};
+use crate::refusal::name_at;
 use hub_cert::{CheckFault, Goal};
 use hub_path::Name;
 use hub_profile::{Profile, ProfileFault, Rule};
@@ -273,7 +274,7 @@ fn why_in(
     match fault {
         CheckFault::TooLarge { .. } => undecided_why(alloc, STAGES),
         CheckFault::Missing { goal } => nested_why(alloc, profiles, *goal),
-        _ => shown_line(alloc, profiles, rules, fault),
+        _ => unison_shown(alloc, profiles, rules, fault),
     }
 }
 

@@ -256,7 +256,7 @@ fn archive_text(alloc: Global, left: &Root, right: &Root) -> Result<String, Allo
 }
 
 /// The line of a breach, or nothing if there is no rule of that number.
-fn breach_line(
+pub(crate) fn breach_line(
     alloc: Global,
     name: &str,
     rules: &[Rule],

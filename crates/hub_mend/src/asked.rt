@@ -1,4 +1,5 @@
 //! What is asked of the profiles with the lines that are found.
+use crate::below::{have_nested, is_rule_nested};
 use crate::case::{Case, cases_of};
 use crate::cut::{is_profile, is_rules};
 use crate::office::Office;
@@ -34,7 +35,7 @@ impl Office {
     /// Returns whether that can be read with the lines that there are, and neither its fault nor a kept value shows that it is
     /// unsafe. It searches only where the first search was given up.
     pub(crate) fn seems_mended(&self, pieces: &[Piece], case: &Case) -> Result<bool, AllocError> {
-        if matches!(case.fault, CheckFault::TooLarge { .. }) {
+        if matches!(case.fault, CheckFault::TooLarge { .. }) || self.is_nested(case.subject) {
             return self.is_mended(pieces, case);
         }
         match self.read_with_lines(pieces, case.subject)? {
@@ -48,6 +49,9 @@ impl Office {
     /// Returns whether there is room for the lines that there are, and its fault is none any more. It searches only where the first
     /// search was given up.
     pub(crate) fn is_answered(&self, pieces: &[Piece], case: &Case) -> Result<bool, AllocError> {
+        if self.is_nested(case.subject) {
+            return self.is_mended(pieces, case);
+        }
         let Some(set) = self.set_of(pieces, case.subject)? else {
             return Ok(false);
         };
@@ -59,8 +63,46 @@ impl Office {
 
     /// Returns whether there is room for the lines that there are, and it isn't unsafe any more with them.
     pub(crate) fn is_mended(&self, pieces: &[Piece], case: &Case) -> Result<bool, AllocError> {
+        if self.is_nested(case.subject) {
+            return self.is_mended_apart(pieces, case.subject);
+        }
         match self.set_of(pieces, case.subject)? {
             Some(set) => Ok(!self.is_unsafe(&set, case.subject)?),
+            None => Ok(false),
+        }
+    }
+
+    /// Returns whether that is about nested roots. Those are no set: `hub_apart` searches them, for Unison alone.
+    fn is_nested(&self, subject: Subject) -> bool {
+        let profiles = self.profiles.as_slice();
+        let rules = self.rules.as_slice();
+        let [first, last] = subject.ends();
+        match (subject, profiles.get(first), profiles.get(last)) {
+            (Subject::Pair(_, _), Some(one), Some(other)) => {
+                self.is_for_unison() && have_nested(one, other)
+            }
+            (Subject::Rule(_, number), Some(own), _) => {
+                self.is_for_unison()
+                    && rules
+                        .get(number)
+                        .is_some_and(|rule| is_rule_nested(own, rules, rule))
+            }
+            _ => false,
+        }
+    }
+
+    /// Returns whether there is room for the lines that there are, and that is no line of the profiles that it is about.
+    fn is_mended_apart(&self, pieces: &[Piece], subject: Subject) -> Result<bool, AllocError> {
+        let Some((profiles, _)) = self.read_with_lines(pieces, subject)? else {
+            return Ok(false);
+        };
+        if !self.is_taken_from(subject, profiles.as_slice()) {
+            return Ok(false);
+        }
+        let with_rules = matches!(subject, Subject::Rule(_, _));
+        let text = self.text_of(pieces, &subject.ends(), with_rules)?;
+        match faults_in(self.alloc, text.as_slice(), true)? {
+            Some(faults) => Ok(!has_subject(faults.as_slice(), own_subject(subject))),
             None => Ok(false),
         }
     }
@@ -93,17 +135,8 @@ impl Office {
 
     /// Returns whether that is unsafe in the set of the profiles that it is about.
     fn is_unsafe(&self, set: &ProfileSet, subject: Subject) -> Result<bool, AllocError> {
-        let own = match subject {
-            Subject::Pair(_, _) => Subject::Pair(0, 1),
-            Subject::Rule(_, rule) => Subject::Rule(0, rule),
-        };
         let faults = faults(self.alloc, set)?;
-        for fault in faults.as_slice() {
-            if Subject::of_fault(fault) == Some(own) {
-                return Ok(true);
-            }
-        }
-        Ok(false)
+        Ok(has_subject(faults.as_slice(), own_subject(subject)))
     }
 
     /// The profiles that it is about, with their lines, and the rules. For Unison two profiles are read without them.
@@ -144,6 +177,21 @@ impl Office {
         }
         Ok(text)
     }
+}
+
+/// It, if its profiles are all that there are.
+fn own_subject(subject: Subject) -> Subject {
+    match subject {
+        Subject::Pair(_, _) => Subject::Pair(0, 1),
+        Subject::Rule(_, rule) => Subject::Rule(0, rule),
+    }
+}
+
+/// Returns whether one of these faults is about that.
+fn has_subject(faults: &[CheckFault], subject: Subject) -> bool {
+    faults
+        .iter()
+        .any(|fault| Subject::of_fault(fault) == Some(subject))
 }
 
 /// The numbers of the profiles that these cases are about, ascending.

@@ -18,9 +18,8 @@ use std::collections::BTreeSet;
 /// For a clash of two profiles of which one has a folder and the other one a part of it, the first one leaves the part out, and
 /// makes no change at the folders between at the roots of both. For what breaks a rule it is a bar on the rule's pattern, or else
 /// on the root. No line is found that isn't needed, or that mends nothing, or for which there is no room in a limit of a profile
-/// or of a set. As they are read for Unison, some lines of a profile take two of the lines that it may have; so one more may have
-/// no room though the profile has fewer. For Unison what is unsafe is said by `hub_apart`: each two near profiles are looked at
-/// without the rules, and each one beside them. Two with nested roots get no line.
+/// or of a set. For Unison what is unsafe is said by `hub_apart`: each two near profiles are looked at without the rules, and each
+/// one beside them. Roots may be nested then: the lines are counted from the roots of their profile.
 ///
 /// The cost is mostly two searches of all goals. What isn't mended by the first lines makes a search of all goals more, and each
 /// line that isn't needed one of two profiles for each two that clash.

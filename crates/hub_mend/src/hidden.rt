@@ -1,4 +1,5 @@
 //! What lines leave out, and lines about it.
+use crate::below::have_nested;
 use crate::cut::is_profile;
 use crate::line::ignore_line;
 use crate::office::Office;
@@ -15,11 +16,13 @@ pub(crate) fn has_no_line(pieces: &[Piece], subject: Subject) -> bool {
     lines_at(pieces, first).is_empty() && lines_at(pieces, last).is_empty()
 }
 
-/// Returns whether a profile has a folder of which another one has a part, by their numbers.
+/// Returns whether a profile has a folder of which another one has a part, by their numbers. Of nested roots that isn't asked.
 pub(crate) fn has_parts(office: &Office, own: usize, other: usize) -> bool {
     let profiles = office.profiles.as_slice();
     match (profiles.get(own), profiles.get(other)) {
-        (Some(own), Some(other)) => other.paths().iter().any(|part| has_part(own, part)),
+        (Some(own), Some(other)) => {
+            have_nested(own, other) || other.paths().iter().any(|part| has_part(own, part))
+        }
         _ => false,
     }
 }
@@ -36,7 +39,8 @@ pub(crate) fn is_hidden(
     let profiles = office.profiles.as_slice();
     match (profiles.get(first), profiles.get(second)) {
         (Some(one), Some(other)) => Ok(
-            hides_parts(office, one, lines_at(pieces, first), other)?
+            !have_nested(one, other)
+                && hides_parts(office, one, lines_at(pieces, first), other)?
                 && hides_parts(office, other, lines_at(pieces, second), one)?,
         ),
         _ => Ok(false),

@@ -37,6 +37,7 @@
 #![tactic(auto)]
 
 mod asked;
+mod below;
 mod case;
 mod cut;
 mod find;

@@ -16,7 +16,9 @@ impl Subject {
         match fault {
             CheckFault::Overlap { writer, other, .. } => Some(pair_of(*writer, *other)),
             CheckFault::Breach { profile, rule, .. } => Some(Subject::Rule(*profile, *rule)),
-            CheckFault::TooLarge { goal } => Some(Subject::of_goal(*goal)),
+            CheckFault::TooLarge { goal } | CheckFault::Missing { goal } => Some(Subject::of_goal(
+                *goal,
+            )),
             _ => None,
         }
     }

@@ -1,7 +1,8 @@
 -- What is answered where a faulty profile keeps no other from being read.
 use Rattle.std.proofs.Common.{◌≡◌, ◌∙◌, inl, inr, List, ℕ, true, Some, Result, Ok, Err, refl, sym, ap, subst}
 use Rattle.std.specs.Prelude.{IfOk, string_bytes}
-use Rattle.hub_apart.specs.ApartLines.{set_of}
+use Rattle.hub_apart.specs.ApartLines.{set_of, set_of_one, set_of_two}
+use Rattle.hub_apart.specs.NestedLines.{IsRefusedBeside, IsRefusedNear, IsRefusedUnder, together, under}
 use Rattle.hub_apart.specs.declared.searched.Apart.{Apart}
 use Rattle.hub_cert.specs.Set.{Members}
 use Rattle.hub_cert.specs.declared.fault.CheckFault.{CheckFault}
@@ -109,12 +110,26 @@ written-of r found (Ok p) Ps Rs es archives ps rs ls text whole = record {
 }
 written-of r found (Err e) Ps Rs es archives ps rs ls text whole = tt
 
--- Such a reason has no numbers.
+-- Such a reason has no numbers, be it of two profiles, or of one and rules.
+near-no_numbers : (P Q : Parts) (e : CheckFault) → IsRefusedNear P Q e → has_no_numbers e ≡ true
+near-no_numbers P Q e (inl (inl h)) = ap has_no_numbers h
+near-no_numbers P Q e (inl (inr h)) = refused-no_numbers (together h.2) e h.4
+near-no_numbers P Q e (inr h) = refused-no_numbers (set_of_two P Q) e h.1
+
+under-no_numbers : (P : Parts) (R : Rule) (e : CheckFault) → IsRefusedUnder P R e → has_no_numbers e ≡ true
+under-no_numbers P R e (inl h) = ap has_no_numbers h
+under-no_numbers P R e (inr h) = refused-no_numbers (under h.1) e h.3
+
+beside-no_numbers : (P : Parts) (Rs : List Rule) (e : CheckFault) → IsRefusedBeside P Rs e → has_no_numbers e ≡ true
+beside-no_numbers P Rs e (inl (inl h)) = ap has_no_numbers h
+beside-no_numbers P Rs e (inl (inr h)) = under-no_numbers P h.1 e h.3
+beside-no_numbers P Rs e (inr h) = refused-no_numbers (set_of_one P Rs) e h.1
+
 pub unplanned-no_numbers : (Ps : List Parts) (Rs : List Rule) (e : CheckFault) → IsRefusedInUnison Ps Rs e → has_no_numbers e ≡ true
 unplanned-no_numbers Ps Rs e (inl (inl h)) = ap has_no_numbers h
-unplanned-no_numbers Ps Rs e (inl (inr h)) = refused-no_numbers h.0 e h.2
+unplanned-no_numbers Ps Rs e (inl (inr h)) = near-no_numbers h.2 h.3 e h.7
 unplanned-no_numbers Ps Rs e (inr (inl h)) = ap has_no_numbers h
-unplanned-no_numbers Ps Rs e (inr (inr h)) = refused-no_numbers h.0 e h.2
+unplanned-no_numbers Ps Rs e (inr (inr h)) = beside-no_numbers h.1 Rs e h.3
 
 one-name-no_numbers : (request : Request) (r : Roster) (e : CheckFault) → HaveOneName request r e → has_no_numbers e ≡ true
 one-name-no_numbers rounds_alone r e h = ap has_no_numbers h.2

@@ -16,7 +16,7 @@ use Rattle.hub_reach.specs.Safe.{share_archive}
 use Rattle.hub_rounds.specs.Lines.{HasNoOwnLine, HasPair, names_pair, subject_of}
 use Rattle.hub_rounds.specs.declared.subject.Subject.{Subject}
 use Rattle.hub_rounds.specs.declared.subject.Subject.TheVariants.{Pair, Alone, Nothing}
-use Rattle.hub_unison.specs.Rules.{KeepsRulesInUnison}
+use Rattle.hub_parts.specs.Anywhere.{KeepsRulesAnywhereInUnison}
 use Rattle.hub_unison.specs.Shared.{ShareNoArchive, is_shared, shared_pairs}
 use Rattle.hub_unison.specs.UnisonReach.{IsSafeInUnison}
 use Rattle.hub_unison.specs.Written.{AreWrittenAs, Written}
@@ -41,7 +41,7 @@ SomeAreSafe =
 abbrev pub OneKeepsRules : Type 0
 OneKeepsRules =
     (Ws : List Written) (Rs : List Rule) (es : List CheckFault) (i : ℕ) (W : Written)
-    → HaveLinesInUnison Ws Rs es → slice_get Ws i ≡ Some W → HasNoOwnLine es i → KeepsRulesInUnison (W ∷ []) Rs
+    → HaveLinesInUnison Ws Rs es → slice_get Ws i ≡ Some W → HasNoOwnLine es i → KeepsRulesAnywhereInUnison (W ∷ []) Rs
 
 -- The two numbers have one order.
 turned : (s : Subject) (i j : ℕ) → names_pair s i j ≡ true → names_pair s j i ≡ true
@@ -135,6 +135,6 @@ plan-in_unison bytes text whole p i j V W l at_i at_j none =
     p.pairs (written_in p.takes.sections) i j V W written l at_i at_j apart (λ h. none (inl h))
 
 pub plan-keeps : (bytes text : List ℕ) (whole : Bool) (p : IsPlan bytes text whole) (i : ℕ) (W : Written)
-    → slice_get (written_in p.takes.sections) i ≡ Some W → HasNoOwnLine p.lines i → KeepsRulesInUnison (W ∷ []) p.own.rules
+    → slice_get (written_in p.takes.sections) i ≡ Some W → HasNoOwnLine p.lines i → KeepsRulesAnywhereInUnison (W ∷ []) p.own.rules
 plan-keeps bytes text whole p i W at none =
     p.alone (written_in p.takes.sections) i W (taken-written (counted_bundle bytes) p.own p.takes) at none

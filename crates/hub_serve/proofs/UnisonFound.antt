@@ -11,9 +11,8 @@ use Rattle.hub_apart.specs.UnsafeParts.{HasUnsafePart, shows_path}
 use Rattle.hub_apart.specs.WithoutLines.{AreSome, HaveLinesInUnison, HaveNoOwnLine, HaveNoPair}
 use Rattle.hub_apart.specs.declared.searched.Apart.{Apart}
 use Rattle.hub_cert.specs.declared.fault.CheckFault.{CheckFault}
-use Rattle.hub_parts.specs.Anywhere.{IsSafeAnywhereInUnison}
+use Rattle.hub_parts.specs.Anywhere.{IsSafeAnywhereInUnison, KeepsRulesAnywhereInUnison}
 use Rattle.hub_parts.specs.InUnison.{parts_read}
-use Rattle.hub_unison.specs.Rules.{KeepsRulesInUnison}
 use Rattle.hub_unison.specs.Shared.{ShareNoArchive}
 use Rattle.hub_unison.specs.Written.{Written}
 use Rattle.hub_serve.proofs.PlansInUnison.{SomeAreSafe}
@@ -30,7 +29,7 @@ SomeNeverClash =
 abbrev pub SomeKeepRules : Type 0
 SomeKeepRules =
     (Ws Vs : List Written) (Rs : List Rule) (es : List CheckFault) (numbers : List ℕ)
-    → HaveLinesInUnison Ws Rs es → AreSome Ws Vs numbers → HaveNoOwnLine es numbers → KeepsRulesInUnison Vs Rs
+    → HaveLinesInUnison Ws Rs es → AreSome Ws Vs numbers → HaveNoOwnLine es numbers → KeepsRulesAnywhereInUnison Vs Rs
 
 abbrev pub LinesShow : Type 0
 LinesShow =

@@ -37,7 +37,7 @@ use Rattle.hub_report.specs.declared.plan.Plan.{Plan}
 use Rattle.hub_report.specs.declared.plan.Roster.{Roster}
 use Rattle.hub_report.specs.declared.plan_answer.PlanAnswer.{PlanAnswer}
 use Rattle.hub_report.specs.declared.plan_answer.PlanAnswer.TheVariants.{Made, Cut, Refused, BadRules}
-use Rattle.hub_unison.specs.Rules.{KeepsRulesInUnison}
+use Rattle.hub_parts.specs.Anywhere.{KeepsRulesAnywhereInUnison}
 use Rattle.hub_unison.specs.Shared.{ShareNoArchive, shared_pairs}
 use Rattle.hub_unison.specs.UnisonReach.{IsSafeInUnison}
 use Rattle.hub_unison.specs.Written.{AreWrittenAs, Written}
@@ -150,7 +150,7 @@ MayRunBeside Ps lines =
 abbrev pub KeepRules : List Parts → List Rule → List CheckFault → Type 0
 KeepRules Ps Rs lines =
     (Ws : List Written) (i : ℕ) (W : Written) → AreWrittenAs Ws Ps → slice_get Ws i ≡ Some W
-    → HasNoOwnLine lines i → KeepsRulesInUnison (W ∷ []) Rs
+    → HasNoOwnLine lines i → KeepsRulesAnywhereInUnison (W ∷ []) Rs
 
 -- These are the lines of profiles and rules in Unison, with the readings beside the rules, and what
 -- follows for those without lines.

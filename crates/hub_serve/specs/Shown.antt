@@ -28,7 +28,7 @@ use Rattle.hub_serve.specs.Rounds.{DrawsClashes, ListsClashes, WritesRounds}
 use Rattle.hub_serve.specs.Runs.{IsBelow}
 use Rattle.hub_serve.specs.Plans.{AreEachOnce, CutsAlone, IsApart, IsPlan, PlacesEach, RunBeside}
 use Rattle.hub_rounds.specs.Lines.{HasNoOwnLine}
-use Rattle.hub_unison.specs.Rules.{KeepsRulesInUnison}
+use Rattle.hub_parts.specs.Anywhere.{KeepsRulesAnywhereInUnison}
 use Rattle.hub_unison.specs.Shared.{ShareNoArchive, is_shared, shared_pairs}
 use Rattle.hub_unison.specs.UnisonReach.{IsSafeInUnison}
 use Rattle.hub_unison.specs.Written.{Written}
@@ -202,7 +202,7 @@ pub record ShowsPlan (asked : Option Request) (bytes text : List ℕ) (status : 
       → slice_get (written_in plan.takes.sections) j ≡ Some W
       → (IsApart plan.lines (shared_pairs plan.own.profiles) i j → ⊥) → RunBeside V W
   pub kept : (i : ℕ) (W : Written) → slice_get (written_in plan.takes.sections) i ≡ Some W
-      → HasNoOwnLine plan.lines i → KeepsRulesInUnison (W ∷ []) plan.own.rules
+      → HasNoOwnLine plan.lines i → KeepsRulesAnywhereInUnison (W ∷ []) plan.own.rules
   pub placed : PlacesEach plan.own.roster plan.own.rules plan.lines
   pub status_is : status ≡ (if well then 0 else 1)
 

@@ -5,7 +5,7 @@ use Rattle.hub_path.specs.Path.{Path}
 use Rattle.hub_profile.specs.Parts.{Parts}
 use Rattle.hub_profile.specs.declared.rule.Rule.{Rule}
 use Rattle.hub_apart.specs.WithoutLines.{AreSome}
-use Rattle.hub_parts.specs.Anywhere.{IsSafeAnywhereInUnison}
+use Rattle.hub_parts.specs.Anywhere.{IsSafeAnywhereInUnison, KeepsRulesAnywhereInUnison}
 use Rattle.hub_parts.specs.InUnison.{parts_read}
 use Rattle.hub_parts.specs.Whole.{AreRootsApart}
 use Rattle.hub_unison.specs.Matching.{IsMatching, Matching}
@@ -84,12 +84,12 @@ pub record SpellsSafeInUnison (bytes : List ℕ) : Type 0 where
   pub safe : IsSafeInUnison (written_in spelled.sections)
   pub kept : KeepsRulesInUnison (written_in spelled.sections) own.rules
 
--- No two of these profiles clash in Unison, wherever their roots lie. So they are safe in Unison, if no
--- different roots of them are nested. By them Unison breaks none of the rules.
+-- No two of these profiles clash in Unison, and by none Unison breaks one of the rules, wherever the
+-- roots lie. So they are safe in Unison, if no different roots of them are nested.
 pub record AreSafeTogether (Ws : List Written) (Rs : List Rule) : Type 0 where
   pub anywhere : IsSafeAnywhereInUnison Ws
   pub safe : AreRootsApart (parts_read Ws) [] → IsSafeInUnison Ws
-  pub kept : KeepsRulesInUnison Ws Rs
+  pub kept : KeepsRulesAnywhereInUnison Ws Rs
 
 -- The lines that count are a bundle, whose own profiles are safe together.
 pub record SpellsSafeTogether (bytes : List ℕ) : Type 0 where

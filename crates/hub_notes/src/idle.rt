@@ -1,19 +1,20 @@
 //! Rules for paths that no profile reaches.
 
-use crate::query::is_same_root;
+use crate::query::{are_over, is_same_root};
 use crate::said::Notes;
 use crate::start::{Start, start_of};
 use hub_source::{Said, Source, SourceLine};
 
 /// Says which rule is for paths that no profile reaches. Of a pattern only what stands before its first wildcard is looked at, and
-/// ignored paths count as reached.
+/// ignored paths count as reached. For Unison a rule holds at roots within its own one and around it, too: there all counts.
 pub(crate) fn say_idle_rule(
     out: &mut Notes,
     source: &Source<'_>,
     profiles: &[SourceLine<'_>],
     section: usize,
+    is_for_unison: bool,
 ) -> Said {
-    match idle_rule(source, profiles, section) {
+    match idle_rule(source, profiles, section, is_for_unison) {
         Some(line) => out.add_on(source, line, "no profile reaches what this rule is for:"),
         None => Ok(()),
     }
@@ -24,12 +25,14 @@ fn idle_rule<'s, 'a>(
     source: &'s Source<'a>,
     profiles: &[SourceLine<'_>],
     section: usize,
+    is_for_unison: bool,
 ) -> Option<&'s SourceLine<'a>> {
     let mut root = "";
     for line in source.section_lines(section) {
         root = line.value_of("root").unwrap_or(root);
         if let Some(start) = start_of(line) {
-            if is_idle(source, profiles, root, start) {
+            let is_spread = is_for_unison && has_nested(source, profiles, root);
+            if !is_spread && is_idle(source, profiles, root, start) {
                 return Some(line);
             }
         }
@@ -50,6 +53,20 @@ fn is_idle(source: &Source<'_>, profiles: &[SourceLine<'_>], root: &str, start: 
         }
     }
     has_root
+}
+
+/// Returns whether one of the profiles has another root that lies within this one, or around it.
+fn has_nested(source: &Source<'_>, profiles: &[SourceLine<'_>], root: &str) -> bool {
+    profiles.iter().any(|profile| {
+        let lines = source.section_lines(profile.section);
+        lines.iter().any(|line| is_nested(line, root))
+    })
+}
+
+/// Returns whether a line gives a profile a root that lies within another one, or around it.
+fn is_nested(line: &SourceLine<'_>, root: &str) -> bool {
+    line.value_of("root")
+        .is_some_and(|own| are_over(own, root) && !is_same_root(own, root))
 }
 
 /// Returns whether a line gives a profile a root.

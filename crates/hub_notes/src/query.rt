@@ -38,6 +38,19 @@ pub(crate) fn is_rule_name(name: &str) -> bool {
     name == "nolose" || name == "nochange" || name == "nonew"
 }
 
+/// Returns whether two texts are one root, or one lies within the other.
+pub(crate) fn are_over(one: &str, other: &str) -> bool {
+    is_same_root(one, other) || lies_within(one, other) || lies_within(other, one)
+}
+
+/// Returns whether a root lies within another one.
+fn lies_within(root: &str, other: &str) -> bool {
+    match root.strip_prefix(other.strip_suffix('/').unwrap_or(other)) {
+        Some(rest) => rest.starts_with('/'),
+        None => false,
+    }
+}
+
 /// Returns whether two texts are one root.
 pub fn is_same_root(one: &str, other: &str) -> bool {
     one.strip_suffix('/').unwrap_or(one) == other.strip_suffix('/').unwrap_or(other)

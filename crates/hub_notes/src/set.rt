@@ -1,7 +1,7 @@
 //! Notes on a set: what its profiles and rules may not have been meant to say.
 
 use crate::idle::say_idle_rule;
-use crate::query::is_same_root;
+use crate::query::{are_over, is_same_root};
 use crate::said::Notes;
 use crate::unison::say_otherwise_read;
 use hub_source::{Said, Source, SourceLine, name_of, trimmed};
@@ -37,7 +37,7 @@ fn say_notes(
     profiles: &[SourceLine<'_>],
     is_for_unison: bool,
 ) -> Said {
-    say_strange_rule(out, source, profiles)?;
+    say_strange_rule(out, source, profiles, is_for_unison)?;
     say_same_pair(out, source, profiles)?;
     say_otherwise_read(out, source, profiles, is_for_unison)?;
     say_blank_names(out, source.alloc(), profiles)
@@ -56,19 +56,29 @@ fn say_blank_names(out: &mut Notes, alloc: Global, profiles: &[SourceLine<'_>]) 
     Ok(())
 }
 
-/// Says which root of the rules no profile has, or else which rule is for a path that no profile reaches.
-fn say_strange_rule(out: &mut Notes, source: &Source<'_>, profiles: &[SourceLine<'_>]) -> Said {
+/// Says which root of the rules no profile has, or else which rule is for a path that no profile reaches. For Unison a rule holds at
+/// roots within its own one and around it, too.
+fn say_strange_rule(
+    out: &mut Notes,
+    source: &Source<'_>,
+    profiles: &[SourceLine<'_>],
+    is_for_unison: bool,
+) -> Said {
     let Some(section) = source.section("%rules") else {
         return Ok(());
     };
     let roots = roots_beside(source, section)?;
-    match strange_root(source.section_lines(section), roots.as_slice()) {
+    match strange_root(
+        source.section_lines(section),
+        roots.as_slice(),
+        is_for_unison,
+    ) {
         Some(line) => out.add_on(
             source,
             line,
             "no profile has this root, so no rule below it protects anything:",
         ),
-        None => say_idle_rule(out, source, profiles, section),
+        None => say_idle_rule(out, source, profiles, section, is_for_unison),
     }
 }
 
@@ -76,10 +86,11 @@ fn say_strange_rule(out: &mut Notes, source: &Source<'_>, profiles: &[SourceLine
 fn strange_root<'s, 'a>(
     lines: &'s [SourceLine<'a>],
     roots: &[SourceLine<'_>],
+    is_for_unison: bool,
 ) -> Option<&'s SourceLine<'a>> {
     for line in lines {
         if let Some(root) = line.value_of("root") {
-            if !is_among(roots, root) {
+            if !is_among(roots, root, is_for_unison) {
                 return Some(line);
             }
         }
@@ -101,9 +112,12 @@ fn roots_beside<'a>(
     Ok(roots)
 }
 
-/// Returns whether one of these lines has a root.
-fn is_among(roots: &[SourceLine<'_>], root: &str) -> bool {
-    roots.iter().any(|own| is_same_root(own.value_of("root").unwrap_or(""), root))
+/// Returns whether one of these lines has a root; for Unison also whether it has one within it or around it.
+fn is_among(roots: &[SourceLine<'_>], root: &str, is_for_unison: bool) -> bool {
+    roots.iter().any(|line| {
+        let own = line.value_of("root").unwrap_or("");
+        is_same_root(own, root) || is_for_unison && are_over(own, root)
+    })
 }
 
 /// Says which two profiles have the same two roots.

@@ -30,7 +30,7 @@ const NO_STATE: &str =
 
 /// Said where no bundle says what was read for Unison.
 const NOT_IMPORTED: &str =
-    "a rule's pattern would have over 200 characters with each member of its sets: write two rules";
+    "a profile would have over 64 ignore and ignorenot lines (join them as *.{a,b}), or a rule's pattern over 200 characters (write two rules)";
 
 /// Said where an option is given that changes nothing.
 const NOT_LISTED: &str = "--verbose has an effect with --unison alone";

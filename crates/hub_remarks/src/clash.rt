@@ -160,15 +160,23 @@ fn push_line(bundle: &mut Vec<u8>, line: SourceLine<'_>) -> Said {
 /// is a fault.
 pub(crate) fn say_wider(out: &mut String, answer: Option<&Reply>) -> Said {
     out.push_str("hubsync: more counts with --unison than may happen")?;
-    let is_fault = match answer {
-        Some(plain) => matches!(plain.told, Told::Faulty(_)),
+    let has_none = match answer {
+        Some(plain) => has_no_plain_answer(&plain.told),
         None => false,
     };
-    out.push_str(if is_fault {
+    out.push_str(if has_none {
         "\n"
     } else {
         ": compare the answer without it\n"
     })
+}
+
+/// Returns whether hubsync has no answer by its own reading: a line is a fault there, or roots are nested.
+fn has_no_plain_answer(told: &Told) -> bool {
+    matches!(
+        told,
+        Told::Faulty(_) | Told::Refused(Refusal::NestedRoots(_))
+    )
 }
 
 /// Says what `check` answered by hubsync's own reading, where the reading for Unison has an overlap or a breach. If that is `safe`,
@@ -183,7 +191,7 @@ pub(crate) fn say_plain_answer(
         return Ok(());
     };
     let line = first_line(plain.text.as_slice());
-    if line.is_empty() {
+    if line.is_empty() || matches!(plain.told, Told::Refused(Refusal::NestedRoots(_))) {
         return Ok(());
     }
     writeln!(out, "hubsync: without --unison: {line}")?;

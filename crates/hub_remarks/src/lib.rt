@@ -10,7 +10,7 @@
 //!
 //! The answer comes as a value (`Told` of `hub_report`): what it names (a profile, a section, a line, a root, a rule) is looked up in the
 //! lines of the input (`hub_source`). So this crate takes part in no answer, and it reads none that was printed. It reads no profile but
-//! for the lines that an answer for Unison leaves out or refuses (`hub_preferences`), or has no room for (`hub_unison`).
+//! for the lines that an answer for Unison leaves out or refuses (`hub_preferences`), or that are too long for it (`hub_unison`).
 //!
 //! - Faults: `bundle` of the headings, `setting`, `unknown`, `value`, `remote` and `pattern` of profiles and rules, `text` of states and
 //!   certificates. The table that roots on other machines need: `hosts`.

@@ -1,14 +1,14 @@
-//! Lines that are left out for a limit, where a profile is read for Unison.
+//! Lines that are left out since a pattern would be too long, where a profile is read for Unison.
 
 use hub_path::Name;
 use hub_preferences::counted;
-use hub_profile::{PATTERN_LINES, Profile, read_profile};
+use hub_profile::{Profile, read_profile};
 use hub_source::{Source, SourceLine};
 use hub_unison::lines_cut;
 use std::alloc::{AllocError, Global};
 
-/// The numbers of the `ignore` lines of an input that don't count, since with those for a dot at the start of a name a limit would be
-/// passed.
+/// The numbers of the `ignore` lines of an input that don't count, since their pattern, or the one for a dot at the start of a
+/// name, would be too long.
 pub(crate) fn cut_lines(source: &Source<'_>, input: &[u8]) -> Result<Vec<usize>, AllocError> {
     let alloc = source.alloc();
     let mut numbers = Vec::new(alloc);
@@ -23,22 +23,21 @@ pub(crate) fn cut_lines(source: &Source<'_>, input: &[u8]) -> Result<Vec<usize>,
     Ok(numbers)
 }
 
-/// Returns whether some line may be left out for a limit: a profile has more lines with patterns than half of those that may be read,
-/// or one whose pattern may be longer if it is written.
+/// Returns whether some line may be left out: one whose pattern, or the one for a dot at the start of a name, may be longer if
+/// it is written.
 fn may_be_cut(source: &Source<'_>) -> Result<bool, AllocError> {
     for heading in source.profiles()? {
-        let lines = source.section_lines(heading.section);
-        let count = lines.iter().filter(|line| is_pattern(*line)).count();
-        if count > PATTERN_LINES / 2 || lines.iter().any(may_grow) {
+        if source.section_lines(heading.section).iter().any(may_grow) {
             return Ok(true);
         }
     }
     Ok(false)
 }
 
-/// Returns whether the pattern of a line may be longer if it is written.
+/// Returns whether the pattern of a line, or the one for a dot at the start of a name, may be longer if it is written: it has
+/// a `*`, a set or a brace, or something of these that is written behind a `\`.
 fn may_grow(line: &SourceLine<'_>) -> bool {
-    is_pattern(line) && line.value().contains(['{', '['])
+    is_pattern(line) && line.value().contains(['*', '[', ']', '{', '}', ','])
 }
 
 /// Returns whether a line is one for a pattern of its profile.

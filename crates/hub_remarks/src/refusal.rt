@@ -15,7 +15,7 @@ const SAME_ARCHIVE: &str =
 
 /// Said of two profiles with nested roots.
 const NESTED_PROFILES: &str =
-    "run one after the other, as rounds does: hubsync doesn't compare paths of roots that lie within one another";
+    "run one after the other, as rounds does: a pattern is too long for hubsync with the names between their roots before it";
 
 /// Says which lines a refusal is about, and what to do.
 pub(crate) fn say_refusal(

@@ -7,7 +7,7 @@ use crate::setting::{fault_line, say_fault_on};
 use hub_bundle::SectionFault;
 use hub_glob::PATTERN_CHARACTERS;
 use hub_preferences::{Finding, Outcome, findings};
-use hub_profile::{Fault, PATTERN_LINES};
+use hub_profile::Fault;
 use hub_report::{FaultyInput, Refusal, Told};
 use hub_source::{Said, Source, shown};
 use std::alloc::AllocError;
@@ -218,7 +218,7 @@ fn say_left_out(
     }
 }
 
-/// Says which `ignore` lines don't count for a limit.
+/// Says which `ignore` lines don't count since a pattern would be too long.
 fn say_cut(out: &mut String, source: &Source<'_>, input: &[u8], listing: Listing) -> Said {
     let cut = cut_once(source, input)?;
     let Some((first, others)) = cut.as_slice().split_first() else {
@@ -227,7 +227,7 @@ fn say_cut(out: &mut String, source: &Source<'_>, input: &[u8], listing: Listing
     let count = cut.len();
     write!(
         out,
-        "hubsync: ignore lines that don't count, as a limit would be passed: {count}, first "
+        "hubsync: ignore lines that don't count, as a pattern would be too long: {count}, first "
     )?;
     say_line(out, source, *first)?;
     if listing == Listing::All {
@@ -235,7 +235,7 @@ fn say_cut(out: &mut String, source: &Source<'_>, input: &[u8], listing: Listing
     }
     writeln!(
         out,
-        "hubsync: a profile has {PATTERN_LINES} lines, and a pattern {PATTERN_CHARACTERS} characters, with those for a dot at a name's start"
+        "hubsync: a pattern has at most {PATTERN_CHARACTERS} characters, and so has the one for a dot at a name's start"
     )
 }
 

@@ -857,6 +857,28 @@ LINES
 fault: my pc=machines/pc: UnknownHost
 hubsync: no line of a table of hosts names my pc: write a host's name before the =
 LINES
+    put machines/hub/docs.prf 'root = /srv/docs' 'root = /srv/copy' 'path = a'
+    put machines/named 'pc /hosts/pc' 'hub /hosts/hub' 'hub~ /'
+    ask 2 check --unison pc=machines/pc machines/hub --hosts machines/named <<LINES
+fault: machines/hub: UnknownHost
+hubsync: this operand has profiles of this machine, and others name theirs: the table of --hosts must say which host this one is,
+hubsync: by a line of the name that others call it, a blank and a slash, as:
+hubsync:     hub /
+LINES
+    ask 2 check --unison machines/hub pc=machines/pc <<LINES
+fault: machines/hub: UnknownHost
+hubsync: this operand has profiles of this machine, and others name theirs: a table of --hosts FILE must say which host this one is,
+hubsync: by a line of the name that others call it, a blank and a slash, as:
+hubsync:     hub /
+LINES
+    ask 1 check --unison machines/hub pc=machines/pc --hosts machines/table <<LINES
+overlap: docs writes a at /srv/docs, pc=docs reaches a
+hubsync: docs (machines/hub/docs.prf line 3): path = a
+hubsync: pc=docs (machines/pc/docs.prf line 3): path = a
+hubsync: run one after the other, or give one other paths, an ignore or a bar
+$wider
+hubsync: without --unison: overlap: docs writes a at /srv/docs, pc=docs reaches a
+LINES
     put_profile a=b/docs.prf 'path = docs'
     ask 0 rounds --unison ./a=b <<LINES
 rounds 1

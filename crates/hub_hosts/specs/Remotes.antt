@@ -85,6 +85,13 @@ folds_names rows machine root = folds_remote rows (remote_for machine root)
 abbrev pub has_machine : List Row → List ℕ → Bool
 has_machine rows machine = is_some (base_for rows (remote_on machine slash))
 
+-- The table has a row for this machine, by the name that others call it: its `/` is `/` here.
+abbrev pub is_own : Row → Bool
+is_own row = not row.is_for_home && length row.path == 0
+
+abbrev pub has_own_row : List Row → Bool
+has_own_row rows = list_any is_own rows
+
 -- The path of a name below a folder. The folder's path has no slash at its end, so that of `/` is
 -- empty.
 abbrev pub folder_path : List ℕ → List ℕ

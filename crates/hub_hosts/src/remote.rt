@@ -153,6 +153,14 @@ impl Hosts {
         base_for(self.rows(), remote_on(machine.as_bytes(), b"/")).is_some()
     }
 
+    /// Returns whether the table has a row for this machine itself, by the name that others call it: one whose path is `/`, and not one
+    /// for a home. (This is this project's choice.)
+    pub fn has_own_row(&self) -> bool
+        ensures { result ≡ remotes.has_own_row self.now }
+    {
+        self.rows().iter().any(is_own)
+    }
+
     /// Returns whether a root of a profile of this machine is on a machine that takes names that differ in case alone for one name: a
     /// row marks its host, be it for another user, or for roots in a home.
     pub fn folds_names(&self, machine: Option<&str>, root: &[u8]) -> bool
@@ -163,6 +171,13 @@ impl Hosts {
             None => false,
         }
     }
+}
+
+/// Returns whether a row is for this machine itself.
+fn is_own(row: &Host<Items<u8>>) -> bool
+    ensures { result ≡ remotes.is_own row.now }
+{
+    !row.is_for_home && row.path.is_empty()
 }
 
 /// Returns whether a row marks this host as one that folds names.

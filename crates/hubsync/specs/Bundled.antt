@@ -1,6 +1,6 @@
 -- What is answered over files.
-use Rattle.std.specs.Prelude.{◌≡◌, ◌⊎◌, ◌++◌, ℕ, Bool, false, not, true, List, [], ◌∷◌, Option, Some, None, Ok, Err, IfSome, is_some, codes, map, string_bytes}
-use Rattle.std.specs.List.{All, Contains, find, slice_get}
+use Rattle.std.specs.Prelude.{◌≡◌, ◌⊎◌, ◌++◌, ℕ, Bool, false, not, true, ◌&&◌, List, [], ◌∷◌, Option, Some, None, Ok, Err, IfSome, is_some, codes, map, string_bytes}
+use Rattle.std.specs.List.{All, Contains, find, list_any, slice_get}
 use Rattle.hub_archives.specs.Found.{AreKeptOut, IsHeld}
 use Rattle.hub_archives.specs.declared.found.HeldArchives.{HeldArchives}
 use Rattle.hub_path.specs.Path.{Path}
@@ -20,7 +20,7 @@ use Rattle.hub_folder.specs.declared.fault.Untaken.{Untaken}
 use Rattle.hub_folder.specs.declared.fault.Untaken.TheVariants as untaken
 use Rattle.hub_folder.specs.declared.reader.ReadFault.{ReadFault}
 use Rattle.hub_hosts.specs.Profiles.{text_for}
-use Rattle.hub_hosts.specs.Remotes.{has_machine}
+use Rattle.hub_hosts.specs.Remotes.{has_machine, has_own_row}
 use Rattle.hub_hosts.specs.Table.{Row, rows_of}
 use Rattle.hub_hosts.specs.declared.fault.HostsFault.{HostsFault}
 use Rattle.hub_hosts.specs.declared.fault.HostsFault.TheVariants as hosts_fault
@@ -213,15 +213,22 @@ IsTable reads (Some file) table =
     (bytes : List ℕ) × (rows : List Row) × HasBytes reads file bytes
     × (rows_of bytes ≡ Ok rows) × (table ≡ Some rows)
 
--- The machine of an operand that names one has no row in a table of hosts, or there is no table.
-abbrev pub lacks_row : Option (List Row) → Option (List ℕ) → Bool
-lacks_row table None = false
-lacks_row None (Some machine) = true
-lacks_row (Some rows) (Some machine) = not (has_machine rows machine)
+-- The machine of an operand that names one has no row in a table of hosts, or there is no table. An
+-- operand that names none is of this machine. Beside one that does, this machine needs a row too, or
+-- its folders may have two names.
+abbrev pub lacks_row : Bool → Option (List Row) → Option (List ℕ) → Bool
+lacks_row others None None = others
+lacks_row others (Some rows) None = others && not (has_own_row rows)
+lacks_row others None (Some machine) = true
+lacks_row others (Some rows) (Some machine) = not (has_machine rows machine)
 
--- The first such operand.
+-- The first operand of a machine without a row.
+abbrev pub name_machines : List (List ℕ) → Bool
+name_machines operands = list_any (λ o. is_some (machine_of o)) operands
+
 abbrev pub unknown_host : Option (List Row) → List (List ℕ) → Option (List ℕ)
-unknown_host table operands = find (λ o. lacks_row table (machine_of o)) operands
+unknown_host table operands =
+    find (λ o. lacks_row (name_machines operands) table (machine_of o)) operands
 
 -- The label of a profile that an operand names.
 abbrev pub profile_label : Owned → Label

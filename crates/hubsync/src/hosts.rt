@@ -10,28 +10,42 @@ use hub_folder::machine_of;
 use hub_hosts::Hosts;
 use std::alloc::{AllocError, Global};
 
-/// The first operand whose machine the table of hosts lacks. If there is no table, it lacks each machine.
+/// The first operand whose machine the table of hosts lacks. If there is no table, it lacks each machine. Beside operands that name
+/// machines, one that names none is of this machine, and the table must have a row with the path `/` for it: else a folder of this
+/// machine may have two names, one in its own profiles and one in those of others. (This is this project's choice.)
 pub fn unknown_host<'a>(hosts: Option<&Hosts>, operands: &[&'a str]) -> Option<&'a str>
     ensures { text_in result ≡ bundled.unknown_host (table_in hosts.entry) (texts_in operands.now) }
 {
+    let others = name_machines(operands);
     for operand in operands {
-        if lacks_row(hosts, machine_of(*operand)) {
+        if lacks_row(others, hosts, machine_of(*operand)) {
             return Some(*operand);
         }
     }
     None
 }
 
-/// Returns whether there is a machine, and the table of hosts has no row for it.
-fn lacks_row(hosts: Option<&Hosts>, machine: Option<&str>) -> bool
-    ensures { result ≡ bundled.lacks_row (table_in hosts.entry) (machine_in machine.entry) }
+/// Returns whether one of these operands names a machine.
+fn name_machines(operands: &[&str]) -> bool
+    ensures { result ≡ bundled.name_machines (texts_in operands.now) }
 {
-    match machine {
-        Some(machine) => match hosts {
-            Some(hosts) => !hosts.has_machine(machine),
-            None => true,
-        },
-        None => false,
+    for operand in operands {
+        if machine_of(*operand).is_some() {
+            return true;
+        }
+    }
+    false
+}
+
+/// Returns whether the table of hosts has no row for the machine; or none for this machine, if there is none, but others are named.
+fn lacks_row(others: bool, hosts: Option<&Hosts>, machine: Option<&str>) -> bool
+    ensures { result ≡ bundled.lacks_row others (table_in hosts.entry) (machine_in machine.entry) }
+{
+    match (machine, hosts) {
+        (Some(machine), Some(hosts)) => !hosts.has_machine(machine),
+        (Some(_), None) => true,
+        (None, Some(hosts)) => others && !hosts.has_own_row(),
+        (None, None) => others,
     }
 }
 

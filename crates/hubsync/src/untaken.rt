@@ -148,8 +148,28 @@ pub fn write_unknown_host<T: AllocGlobal + Eprint, W: Write>(
     ensures { ReportsFault output.old output.new W.contents operand.now (codes "UnknownHost") result }
 {
     let status = write_fault(rt.alloc(), operand.as_bytes(), "UnknownHost", output);
-    let _ = say_unknown_host(rt, machine_of(operand).unwrap_or(""), has_table);
+    let _ = match machine_of(operand) {
+        Some(machine) => say_unknown_host(rt, machine, has_table),
+        None => say_own_row(rt, has_table),
+    };
     status
+}
+
+/// Says on standard error that the table of hosts wants a line for this machine. If that fails, there is nobody left to tell.
+fn say_own_row<T: AllocGlobal + Eprint>(rt: &T, has_table: bool) -> Result<(), AllocError> {
+    let file = if has_table {
+        "the table of --hosts"
+    } else {
+        "a table of --hosts FILE"
+    };
+    let _ = eprintln!(rt;
+        "hubsync: this operand has profiles of this machine, and others name theirs: {file} must say which host this one is,"
+    );
+    let _ = eprintln!(rt;
+        "hubsync: by a line of the name that others call it, a blank and a slash, as:"
+    );
+    let _ = eprintln!(rt; "hubsync:     hub /");
+    Ok(())
 }
 
 /// Says on standard error which line the table of hosts wants. If that fails, there is nobody left to tell.

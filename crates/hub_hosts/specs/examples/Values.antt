@@ -2,7 +2,7 @@
 -- and where a comment says so.
 use Rattle.std.specs.Prelude.{◌≡◌, ℕ, false, true, List, [], ◌∷◌, None, Some, Ok, Err, codes, refl}
 use Rattle.hub_hosts.specs.Profiles.{text_for}
-use Rattle.hub_hosts.specs.Remotes.{folds_names, has_machine, path_of}
+use Rattle.hub_hosts.specs.Remotes.{folds_names, has_machine, has_own_row, path_of}
 use Rattle.hub_hosts.specs.Table.{Row, rows_of}
 use Rattle.hub_hosts.specs.declared.fault.HostsFault.TheVariants.{BadLine, SecondLine}
 
@@ -216,6 +216,12 @@ a_row_for_a_machine = refl
 
 a_row_for_its_homes_alone : has_machine rows (codes "laptop") ≡ false
 a_row_for_its_homes_alone = refl
+
+a_row_for_this_machine : has_own_row rows ≡ true
+a_row_for_this_machine = refl
+
+no_row_for_this_machine : has_own_row folding_rows ≡ false
+no_row_for_this_machine = refl
 
 a_root_there_folds_names : folds_names folding_rows (Some (codes "pc")) (codes "/srv") ≡ true
 a_root_there_folds_names = refl

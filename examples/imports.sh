@@ -9,8 +9,12 @@
 # they show, which are of another alphabet. A bundle is one set, though, and `--unison` decides part by part: where there are rules, the
 # answer with `--unison` is safe if that of the bundle is, and else of the same kind; a bundle refused for nested roots isn't compared. They are asked with
 # `--unison` too where two profiles share an archive, which the plain answers don't ask about; so are `rounds`. `verify` of certificates
-# for it answers too, if it is safe. A fault is the same. What is imported again has the same answer, and if it ignores nothing it is the
-# same, byte for byte. A line is printed for each that is wrong. The status is 1 if there was one, else 0.
+# for it answers too, if it is safe. A fault is the same, but where the profiles have an answer and no bundle says what was read: there
+# a profile needs more lines than it may have. So the last `ignore` lines are taken away until there is a bundle, some profile of it
+# needs then at least 63 of the 64 lines that it may have, and all else is asked of that. What is imported again has the same answer, and
+# if it ignores nothing it is the same, byte for byte. Profiles of many lines are also asked about with these joined by braces, of which
+# there is a bundle: it answers as the lines that aren't joined do. A line is printed for each that is wrong. The status is 1 if there
+# was one, else 0.
 set -euo pipefail
 if [ "${1:-}" = --help ]; then
     sed -n '2,/^set /{ /^#/s/^# \{0,1\}//p }' "${BASH_SOURCE[0]}"
@@ -79,7 +83,10 @@ ask() {
     cp "$room/bundle" "$room/input"
     "$program" import "$@" <"$room/input" >"$room/imported" 2>/dev/null || status=$?
     answer wanted check --unison "$@"
-    if [ "$status" != 0 ]; then
+    if grep -qx 'fault: no bundle says what was read' "$room/imported" && ! grep -q '^fault' "$room/wanted"; then
+        ask_unwritten "$place" "$status" "$@"
+        return
+    elif [ "$status" != 0 ]; then
         cp "$room/imported" "$room/got"
         echo "status $status" >>"$room/got"
         compare "$place: the fault" wanted got
@@ -97,6 +104,36 @@ ask() {
     done
     ask_again "$place"
     ask_certificates "$place"
+}
+
+# The most lines of patterns that a profile of this bundle has.
+most_patterns() {
+    awk '/^%/ { count = 0 } /^ignore(not)? =/ { if (++count > most) most = count } END { print most + 0 }' "$1"
+}
+
+# Asks about the file `bundle`, of which no bundle says what was read, without the last `ignore` lines that are too many.
+#
+#     ask_unwritten PLACE STATUS WORD..
+ask_unwritten() {
+    local most status=0
+    asked=$((asked + 1))
+    if [ "$2" != 2 ] || [ "$#" -gt 2 ] || grep -q '^%rules$' "$room/bundle"; then
+        complain "$1: no bundle says what was read, and status $2"
+        return
+    fi
+    while grep -q '^ignore =' "$room/bundle"; do
+        tac "$room/bundle" | awk '/^ignore =/ && !is_cut++ { next } { print }' | tac >"$room/cut"
+        mv "$room/cut" "$room/bundle"
+        status=0
+        "$program" import <"$room/bundle" >"$room/imported" 2>/dev/null || status=$?
+        [ "$status" != 0 ] || break
+    done
+    most=$(most_patterns "$room/imported")
+    if [ "$status" != 0 ] || [ "$most" -lt 63 ] || [ "$most" -gt 64 ]; then
+        complain "$1: no bundle says what was read, and with a line less one has $most lines"
+    else
+        ask "$1, without the last lines"
+    fi
 }
 
 # Compares what is imported with what is imported again.
@@ -208,18 +245,43 @@ ask_random() {
     done
 }
 
-# Asks about profiles with so many lines that not each of them has room for another one.
+# Writes a profile with so many lines, and one of a path. With a third word the lines are joined by braces.
+#
+#     many_lines COUNT PATH [joined]
+many_lines() {
+    local number names=''
+    printf '%s\n' '%profile a' 'root = /srv/hub' 'root = /srv/s1'
+    for ((number = 1; number <= $1; number++)); do
+        names+=,x$number
+        if [ "$#" = 2 ]; then
+            echo "ignore = Name *.x$number"
+        elif [ $((number % 30)) = 0 ] || [ "$number" = "$1" ]; then
+            echo "ignore = Name *.{${names#,}}"
+            names=''
+        fi
+    done
+    printf '%s\n' '%profile b' 'root = /srv/hub' 'root = /srv/s2' "path = $2"
+}
+
+# Asks about profiles with so many lines, each of which needs another one for a dot, that at last there is no bundle. The path of the
+# other profile is matched by the last line alone, or is what it leaves out.
 ask_many() {
-    local count number
+    local count path command
     for count in 31 32 33 64; do
-        {
-            printf '%s\n' '%profile a' 'root = /srv/hub' 'root = /srv/s1'
-            for ((number = 1; number <= count; number++)); do
-                echo "ignore = Name *.x$number"
+        for path in "a.x$count" ".x$count"; do
+            many_lines "$count" "$path" >"$room/bundle"
+            ask "$count lines, $path"
+            many_lines "$count" "$path" joined >"$room/bundle"
+            ask "$count lines joined, $path"
+            "$program" import <"$room/bundle" >"$room/imported" 2>/dev/null || complain "$count lines joined, $path: there is no bundle"
+            for command in check clashes rounds; do
+                many_lines "$count" "$path" >"$room/input"
+                answer wanted "$command" --unison
+                cp "$room/imported" "$room/input"
+                answer got "$command"
+                compare "$count lines, and a bundle of them joined, $path: $command" wanted got
             done
-            printf '%s\n' '%profile b' 'root = /srv/hub' 'root = /srv/s2' 'path = a.x32'
-        } >"$room/bundle"
-        ask "$count lines"
+        done
     done
 }
 

@@ -153,18 +153,18 @@ staying =
     ∷ []
 
 -- What is said of the preference of that name in these tables, from the last one on.
-abbrev pub shown_meaning : List ℕ → Option Meaning
-shown_meaning name = option_or (look_up name displays) (look_up name staying)
-
-abbrev pub other_meaning : List ℕ → Option Meaning
-other_meaning name = option_or (look_up name transfers) (shown_meaning name)
+abbrev pub idle_meaning : List ℕ → Option Meaning
+idle_meaning name = option_or (look_up name transfers) (look_up name displays)
 
 abbrev pub quiet_meaning : List ℕ → Option Meaning
-quiet_meaning name = option_or (look_up name elsewhere) (other_meaning name)
+quiet_meaning name = option_or (look_up name elsewhere) (idle_meaning name)
 
--- What is said of the preference of that name, if Unison has one.
+abbrev pub other_meaning : List ℕ → Option Meaning
+other_meaning name = option_or (look_up name changes) (quiet_meaning name)
+
+-- What is said of the preference of that name, if Unison has one. No two tables have one name.
 abbrev pub meaning_named : List ℕ → Option Meaning
-meaning_named name = option_or (look_up name changes) (quiet_meaning name)
+meaning_named name = option_or (look_up name staying) (other_meaning name)
 
 -- What Unison may do by the lines that set it.
 abbrev pub effect_named : List ℕ → Option Effect

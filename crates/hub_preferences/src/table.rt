@@ -97,8 +97,20 @@ pub fn effect_of(name: &str) -> Option<Effect>
 }
 
 /// What is said of the preference of that name. Lines of other names stay.
+///
+/// The preferences whose lines stay are asked first, since profiles have these lines most often.
 pub(crate) fn meaning_of(name: &str) -> Option<Meaning>
     ensures { result ≡ spec.meaning_named (chars name.now) }
+{
+    match named(&STAYING, name) {
+        Some(meaning) => Some(meaning),
+        None => other_meaning(name),
+    }
+}
+
+/// The same of the preferences in the other tables.
+fn other_meaning(name: &str) -> Option<Meaning>
+    ensures { result ≡ spec.other_meaning (chars name.now) }
 {
     match named(&CHANGES, name) {
         Some(meaning) => Some(meaning),
@@ -106,31 +118,23 @@ pub(crate) fn meaning_of(name: &str) -> Option<Meaning>
     }
 }
 
-/// The same of the preferences by which Unison changes neither less nor more at the roots, and of those whose lines stay.
+/// The same of the preferences by which Unison changes neither less nor more at the roots.
 fn quiet_meaning(name: &str) -> Option<Meaning>
     ensures { result ≡ spec.quiet_meaning (chars name.now) }
 {
     match named(&ELSEWHERE, name) {
         Some(meaning) => Some(meaning),
-        None => other_meaning(name),
+        None => idle_meaning(name),
     }
 }
 
-fn other_meaning(name: &str) -> Option<Meaning>
-    ensures { result ≡ spec.other_meaning (chars name.now) }
+/// The same of the preferences without influence.
+fn idle_meaning(name: &str) -> Option<Meaning>
+    ensures { result ≡ spec.idle_meaning (chars name.now) }
 {
     match named(&TRANSFERS, name) {
         Some(meaning) => Some(meaning),
-        None => shown_meaning(name),
-    }
-}
-
-fn shown_meaning(name: &str) -> Option<Meaning>
-    ensures { result ≡ spec.shown_meaning (chars name.now) }
-{
-    match named(&DISPLAYS, name) {
-        Some(meaning) => Some(meaning),
-        None => named(&STAYING, name),
+        None => named(&DISPLAYS, name),
     }
 }
 

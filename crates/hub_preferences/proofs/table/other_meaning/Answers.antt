@@ -1,14 +1,14 @@
 use Rattle.std.proofs.Common.{refl}
 use Rattle.std.specs.Str.{chars}
 use Rattle.hub_profile.specs.LineByLine.{look_up}
-use Rattle.hub_preferences.specs.Table.{transfers, shown_meaning}
+use Rattle.hub_preferences.specs.Table.{changes, quiet_meaning}
 use Rattle.hub_preferences.proofs.Words.{in_first, in_second}
 use Rattle.hub_preferences.proofs.table.other_meaning.Goals as goal
 
 pub returns-in-Some : goal.returns-in-Some
 returns-in-Some c =
-    in_first c.named.result (look_up (chars c.args.name.now) transfers) (shown_meaning (chars c.args.name.now)) (c.named.ensures transfers refl refl) _ c.in-Some.is
+    in_first c.named.result (look_up (chars c.args.name.now) changes) (quiet_meaning (chars c.args.name.now)) (c.named.ensures changes refl refl) _ c.in-Some.is
 
 pub returns-in-None : goal.returns-in-None
 returns-in-None c =
-    in_second c.named.result (look_up (chars c.args.name.now) transfers) (shown_meaning (chars c.args.name.now)) _ (c.named.ensures transfers refl refl) c.in-None.is c.shown_meaning.ensures
+    in_second c.named.result (look_up (chars c.args.name.now) changes) (quiet_meaning (chars c.args.name.now)) _ (c.named.ensures changes refl refl) c.in-None.is c.quiet_meaning.ensures

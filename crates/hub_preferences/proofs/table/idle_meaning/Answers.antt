@@ -1,0 +1,14 @@
+use Rattle.std.proofs.Common.{refl}
+use Rattle.std.specs.Str.{chars}
+use Rattle.hub_profile.specs.LineByLine.{look_up}
+use Rattle.hub_preferences.specs.Table.{transfers, displays}
+use Rattle.hub_preferences.proofs.Words.{in_first, in_second}
+use Rattle.hub_preferences.proofs.table.idle_meaning.Goals as goal
+
+pub returns-in-Some : goal.returns-in-Some
+returns-in-Some c =
+    in_first c.named.result (look_up (chars c.args.name.now) transfers) (look_up (chars c.args.name.now) displays) (c.named.ensures transfers refl refl) _ c.in-Some.is
+
+pub returns-in-None : goal.returns-in-None
+returns-in-None c =
+    in_second c.named.result (look_up (chars c.args.name.now) transfers) (look_up (chars c.args.name.now) displays) _ (c.named.ensures transfers refl refl) c.in-None.is (c.named-in-None.ensures displays refl refl)

@@ -2,8 +2,9 @@ pub mod BesideRules
 pub mod Cautiously
 pub mod IgnoringMore
 pub mod KeptLines
+pub mod Keyed
 pub mod LastName
 pub mod ReadBack
-pub mod SharedPairs
+pub mod SharedKeys
 pub mod Spared
 pub mod TopValues

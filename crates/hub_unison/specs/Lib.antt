@@ -1,5 +1,6 @@
 pub mod Cautious
 pub mod Kept
+pub mod Keys
 pub mod Lines
 pub mod Matching
 pub mod ReadingOf

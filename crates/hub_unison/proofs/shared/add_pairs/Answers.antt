@@ -1,24 +1,24 @@
-use Rattle.std.proofs.Common.{◌+◌, ◌++◌, ◌∙◌, drop, ap, sym, arith}
-use Rattle.hub_unison.specs.Shared.{pairs_with}
-use Rattle.hub_unison.proofs.SharedPairs.{with-more, with-same}
-use Rattle.hub_unison.proofs.shared.add_pairs.Goals.{then-is_shared+in_ok-push, else-is_shared}
+use Rattle.std.proofs.Common.{refl, arith, get_or, None, Some}
+use Rattle.hub_unison.proofs.Keyed.{no-value, pair-last, pair-more, place-more}
 use Rattle.hub_unison.proofs.shared.add_pairs.Goals as goal
 
-pub loop-j-preserved : goal.loop-j-preserved
-loop-j-preserved c =
-    let Ps = c.args.profiles.now in
-    let P = c.args.own.now in
-    let at = c.args.at in
-    let all = c.args.pairs.now.items ++ pairs_with at P (at + 1) (drop (at + 1) Ps) in
-    elim c.if-is_shared.branch [
-      | then-is_shared+in_ok-push w ↦
-          with-more Ps c.loop-j.j c.index-profiles-j.result (omega arith) c.index-profiles-j.is at P
-          c.loop-j.pairs.items c.if-is_shared.pairs.items all c.loop-j.invariant
-          (sym c.is_shared.ensures ∙ w.if-is_shared.true)
-          (ap (λ v. v.items) w.pairs-is ∙ w.in_ok-push.ensures.items)
-      | else-is_shared w ↦
-          with-same Ps c.loop-j.j c.index-profiles-j.result (omega arith) c.index-profiles-j.is at P
-          c.loop-j.pairs.items c.if-is_shared.pairs.items all c.loop-j.invariant
-          (sym c.is_shared.ensures ∙ w.if-is_shared.false)
-          (ap (λ v. v.items) w.pairs-is)
-    ]
+pub loop-place-smaller : goal.loop-place-smaller
+loop-place-smaller c =
+    let later = place-more c.args.next.now c.args.at c.loop-place.place (Some c.in-Some.other) c.loop-place.invariant.0
+    c.in-Some.is c.requires.next.0 c.requires.next.1 c.in-Some.other refl in
+    omega (arith, later.0, later.1)
+
+pub loop-place-preserved : goal.loop-place-preserved
+loop-place-preserved c = (
+  (place-more c.args.next.now c.args.at c.loop-place.place (Some c.in-Some.other) c.loop-place.invariant.0
+      c.in-Some.is c.requires.next.0 c.requires.next.1 c.in-Some.other refl).0,
+  λ ks e. pair-more c.args.next.now c.args.at c.loop-place.place (Some c.in-Some.other) c.loop-place.invariant.0
+      c.in-Some.is ks e c.in-Some.other refl c.loop-place.pairs.items c.push.new.self.items _
+      (c.loop-place.invariant.1 ks e) c.in_ok-push.ensures.items,
+)
+
+pub returns : goal.returns
+returns c = λ ks e.
+    pair-last c.args.next.now c.args.at c.loop-place.place None c.loop-place.invariant.0
+    (no-value (get_or c.args.next.now c.loop-place.place None) c.in_default.not-Some) ks e refl
+    c.loop-place.pairs.items _ (c.loop-place.invariant.1 ks e)

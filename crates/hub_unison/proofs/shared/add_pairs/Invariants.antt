@@ -1,8 +1,11 @@
-use Rattle.std.proofs.Common.{◌≡◌, ◌++◌, ◌+◌, drop}
-use Rattle.hub_unison.specs.Shared.{pairs_with}
+use Rattle.std.proofs.Common.{◌≡◌, ◌<◌, ◌-◌, ◌++◌, List, length}
+use Rattle.hub_unison.specs.Keys.{Key, next_places, pairs_after}
 use Rattle.hub_unison.proofs.shared.add_pairs.Given as goal
 
-abbrev pub invariant-loop-j : goal.invariant-loop-j
-invariant-loop-j l =
-    l.pairs.items ++ pairs_with l.at l.own l.j (drop l.j l.profiles)
-    ≡ l.initial.pairs.items ++ pairs_with l.at l.own (l.at + 1) (drop (l.at + 1) l.profiles)
+abbrev pub invariant-loop-place : goal.invariant-loop-place
+invariant-loop-place l =
+    (l.place < length l.next) × ((ks : List Key) → l.next ≡ next_places 0 ks
+    → l.pairs.items ++ pairs_after l.at l.place ks ≡ l.initial.pairs.items ++ pairs_after l.at l.at ks)
+
+abbrev pub decreases-loop-place : goal.decreases-loop-place
+decreases-loop-place l = length l.next - l.place

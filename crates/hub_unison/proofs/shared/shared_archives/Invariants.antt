@@ -1,6 +1,7 @@
-use Rattle.std.proofs.Common.{◌≡◌, ◌++◌, drop}
-use Rattle.hub_unison.specs.Shared.{pairs_from, shared_pairs}
+use Rattle.std.proofs.Common.{◌≡◌, ◌++◌, map, drop}
+use Rattle.hub_unison.specs.Keys.{key_of, pairs_of_keys}
 use Rattle.hub_unison.proofs.shared.shared_archives.Given as goal
 
-abbrev pub invariant-loop-i : goal.invariant-loop-i
-invariant-loop-i l = l.pairs.items ++ pairs_from l.i (drop l.i l.profiles) ≡ shared_pairs l.profiles
+abbrev pub invariant-loop-at : goal.invariant-loop-at
+invariant-loop-at l =
+    l.pairs.items ++ pairs_of_keys l.at (drop l.at (map key_of l.profiles)) ≡ pairs_of_keys 0 (map key_of l.profiles)

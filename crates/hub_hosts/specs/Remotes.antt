@@ -92,6 +92,17 @@ is_own row = not row.is_for_home && length row.path == 0
 abbrev pub has_own_row : List Row → Bool
 has_own_row rows = list_any is_own rows
 
+-- The host of a row is this machine: a row for it has the path `/`.
+abbrev pub is_own_of : List ℕ → Row → Bool
+is_own_of host row = is_own row && is_same_name (host_in row.name) host
+
+abbrev pub is_here : List Row → Row → Bool
+is_here rows row = list_any (is_own_of (host_in row.name)) rows
+
+-- It is the host of a machine that an operand names, maybe with a user and a port.
+abbrev pub is_of : List ℕ → Row → Bool
+is_of machine row = is_same_name (host_in row.name) (host_in (without_port machine))
+
 -- The path of a name below a folder. The folder's path has no slash at its end, so that of `/` is
 -- empty.
 abbrev pub folder_path : List ℕ → List ℕ

@@ -13,15 +13,15 @@ use std::marker::Model;
 
 /// A host, or a user of it, and the path that stands for its `/`, or for a home there.
 #[derive(Clone, Copy, Debug, PartialEq, Eq)]
-pub(crate) struct Host<T> {
+pub struct Host<T> {
     /// `HOST` or `USER@HOST`.
-    pub(crate) name: T,
+    pub name: T,
     /// Whether it is for roots that are relative to a home.
-    pub(crate) is_for_home: bool,
+    pub is_for_home: bool,
     /// The path, without slashes at its end: that of `/` is empty.
-    pub(crate) path: T,
+    pub path: T,
     /// Whether it takes names that differ in case alone for one name.
-    pub(crate) folds_names: bool,
+    pub folds_names: bool,
 }
 
 /// The paths that stand for hosts. Contracts see the rows, in the order of their lines.
@@ -64,7 +64,7 @@ impl Hosts {
     }
 
     /// The rows, in the order of their lines.
-    pub(crate) fn rows(&self) -> &[Host<Items<u8>>]
+    pub fn rows(&self) -> &[Host<Items<u8>>]
         ensures { result.now ≡ self.now }
     {
         self.rows.as_slice()

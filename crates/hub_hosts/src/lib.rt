@@ -4,6 +4,7 @@
 //! - [`Hosts::text_for`]: the text of a profile or of rules with a path in place of each root of a host that the table has. It may be
 //!   the profile of another machine: then its roots that begin with one slash are there.
 //! - [`Hosts::has_machine`]: whether the table has a row for these; [`Hosts::has_own_row`]: whether it has one for this machine.
+//!   [`Hosts::is_here`] says it of the host of a row, and [`Host::is_of`] whether that is the host of a machine.
 //! - [`root_of`]: the value of a line `root`. [`Hosts::path_of`] is the path that stands for it, and [`Hosts::folds_names`] says whether
 //!   its host takes names that differ in case alone for one name.
 //!
@@ -43,5 +44,5 @@ mod remote;
 mod words;
 
 pub use fault::HostsFault;
-pub use host::Hosts;
+pub use host::{Host, Hosts};
 pub use profile::root_of;

@@ -161,6 +161,14 @@ impl Hosts {
         self.rows().iter().any(is_own)
     }
 
+    /// Returns whether the host of a row of the table is this machine: a row for it, with the same user or not, has the path `/`.
+    pub fn is_here(&self, row: &Host<Items<u8>>) -> bool
+        ensures { result ≡ remotes.is_here self.now row.now }
+    {
+        let host = host_in(row.name.as_slice());
+        self.rows().iter().any(|own| is_own_of(own, host))
+    }
+
     /// Returns whether a root of a profile of this machine is on a machine that takes names that differ in case alone for one name: a
     /// row marks its host, be it for another user, or for roots in a home.
     pub fn folds_names(&self, machine: Option<&str>, root: &[u8]) -> bool
@@ -178,6 +186,23 @@ fn is_own(row: &Host<Items<u8>>) -> bool
     ensures { result ≡ remotes.is_own row.now }
 {
     !row.is_for_home && row.path.is_empty()
+}
+
+/// Returns whether a row is for this machine itself, which it calls by this name.
+fn is_own_of(row: &Host<Items<u8>>, host: &[u8]) -> bool
+    ensures { result ≡ remotes.is_own_of host.now row.now }
+{
+    is_own(row) && is_same_name(host_in(row.name.as_slice()), host)
+}
+
+impl Host<Items<u8>> {
+    /// Returns whether the host of a row is that of a machine, which an operand may name with a user and a port.
+    pub fn is_of(&self, machine: &str) -> bool
+        ensures { result ≡ remotes.is_of machine.now self.now }
+    {
+        let host = host_in(without_port(machine.as_bytes()));
+        is_same_name(host_in(self.name.as_slice()), host)
+    }
 }
 
 /// Returns whether a row marks this host as one that folds names.

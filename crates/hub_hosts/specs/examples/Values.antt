@@ -2,7 +2,7 @@
 -- and where a comment says so.
 use Rattle.std.specs.Prelude.{◌≡◌, ℕ, false, true, List, [], ◌∷◌, None, Some, Ok, Err, codes, refl}
 use Rattle.hub_hosts.specs.Profiles.{text_for}
-use Rattle.hub_hosts.specs.Remotes.{folds_names, has_machine, has_own_row, path_of}
+use Rattle.hub_hosts.specs.Remotes.{folds_names, has_machine, has_own_row, is_here, is_of, path_of}
 use Rattle.hub_hosts.specs.Table.{Row, rows_of}
 use Rattle.hub_hosts.specs.declared.fault.HostsFault.TheVariants.{BadLine, SecondLine}
 
@@ -229,3 +229,19 @@ a_root_there_folds_names = refl
 a_root_on_the_hub_does_not : folds_names folding_rows (Some (codes "pc")) (codes "ssh://hub//srv")
     ≡ false
 a_root_on_the_hub_does_not = refl
+
+a_home_of_this_machine : is_here rows (home_row (codes "anna@TOP") (codes "/h")) ≡ true
+a_home_of_this_machine = refl
+
+another_machine : is_here rows (row (codes "build") (codes "/hosts/build")) ≡ false
+another_machine = refl
+
+a_home_alone_is_not_here : is_here folding_rows (home_row (codes "pc") []) ≡ false
+a_home_alone_is_not_here = refl
+
+a_machine_with_a_user_and_a_port : is_of (codes "bob@Build:22") (row (codes "anna@build") (codes "/hosts/anna"))
+    ≡ true
+a_machine_with_a_user_and_a_port = refl
+
+a_machine_of_another_name : is_of (codes "buildx") (row (codes "build") (codes "/hosts/build")) ≡ false
+a_machine_of_another_name = refl

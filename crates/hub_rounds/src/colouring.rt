@@ -2,9 +2,7 @@
 //!
 //! Nothing is stated of colours. The profiles of one colour are checked.
 
-use crate::graph::{Graph, set_of};
 use crate::named::Named;
-use crate::painting::fewer_colours;
 use std::alloc::{AllocError, Global};
 
 /// How many times the profiles are coloured again (this project's choice).
@@ -29,49 +27,14 @@ impl Turn {
     }
 }
 
-/// Colours the profiles that have no line of their own, and returns the colour of each. If they have a graph, other colours
-/// are searched for: with fewer of them, but at least so many.
-pub(crate) fn colours_of(
+/// Colours the profiles that have these turns, and no others, and returns the colour of each. Then they are coloured again
+/// `PASSES` times, and if this takes fewer colours, the last colours are returned, else the first ones.
+pub(crate) fn colours_by_turns(
     alloc: Global,
     named: &Named,
-    graph: Option<&Graph>,
-    least: usize,
+    turns: &[Turn],
 ) -> Result<Vec<Option<usize>>, AllocError> {
-    let colours = colours_by_turns(alloc, named)?;
-    let Some(graph) = graph else {
-        return Ok(colours);
-    };
-    match fewer_colours(alloc, graph, least, count_in(colours.as_slice()))? {
-        Some(classes) => colours_by_classes(alloc, named, graph, classes.as_slice()),
-        None => Ok(colours),
-    }
-}
-
-/// Returns the colour of each profile, where these are the vertices of each colour.
-fn colours_by_classes(
-    alloc: Global,
-    named: &Named,
-    graph: &Graph,
-    classes: &[u32],
-) -> Result<Vec<Option<usize>>, AllocError> {
-    let mut colours = Vec::new(alloc);
-    colours.resize(named.len(), None)?;
-    for (vertex, profile) in graph.profiles().iter().enumerate() {
-        let own = classes
-            .iter()
-            .position(|class| *class & set_of(vertex) != 0);
-        if let Some(colour) = colours.get_mut(*profile) {
-            *colour = own;
-        }
-    }
-    Ok(colours)
-}
-
-/// Colours the profiles in turn, those with the most clashes first. Then they are coloured again `PASSES` times, and if this
-/// takes fewer colours, the last colours are returned, else the first ones.
-fn colours_by_turns(alloc: Global, named: &Named) -> Result<Vec<Option<usize>>, AllocError> {
-    let turns = turns_by_clashes(alloc, named)?;
-    let first = colour_in_turn(alloc, named, turns.as_slice())?;
+    let first = colour_in_turn(alloc, named, turns)?;
     let last = colour_again(alloc, named, first.as_slice())?;
     if count_in(last.as_slice()) < count_in(first.as_slice()) {
         Ok(last)
@@ -96,7 +59,7 @@ fn colour_again(
 }
 
 /// Returns how many colours there are. The colours below the greatest are all there.
-fn count_in(colours: &[Option<usize>]) -> usize {
+pub(crate) fn count_in(colours: &[Option<usize>]) -> usize {
     let mut count = 0;
     for own in colours {
         if let Some(colour) = *own {
@@ -113,6 +76,20 @@ pub(crate) fn turns_by_clashes(alloc: Global, named: &Named) -> Result<Vec<Turn>
         if named.own_line(profile).is_none() {
             turns.push(Turn::new(named.degree(profile), 0, profile))?;
         }
+    }
+    turns.sort()?;
+    Ok(turns)
+}
+
+/// Returns the turns of these profiles: those with the most clashes first.
+pub(crate) fn turns_among(
+    alloc: Global,
+    named: &Named,
+    profiles: &[usize],
+) -> Result<Vec<Turn>, AllocError> {
+    let mut turns = Vec::with_capacity(alloc, profiles.len())?;
+    for profile in profiles {
+        turns.push(Turn::new(named.degree(*profile), 0, *profile))?;
     }
     turns.sort()?;
     Ok(turns)

@@ -6,7 +6,7 @@ use crate::named::Named;
 use std::alloc::{AllocError, Global};
 
 /// The most profiles of a graph (this project's choice).
-const VERTICES: usize = 24;
+pub(crate) const VERTICES: usize = 24;
 
 /// The most steps of a search in a graph (this project's choice). None of the graphs that were tried took half of these.
 pub(crate) const STEPS: usize = 100_000;
@@ -31,11 +31,20 @@ impl Graph {
         if profiles.len() > VERTICES {
             return Ok(None);
         }
+        Ok(Some(Graph::among(alloc, named, profiles)?))
+    }
+
+    /// Makes the graph of these profiles, which are in their order: `VERTICES` at most, since others would have no clashes.
+    pub(crate) fn among(
+        alloc: Global,
+        named: &Named,
+        profiles: Vec<usize>,
+    ) -> Result<Graph, AllocError> {
         let neighbours = clashing_sets(alloc, named, profiles.as_slice())?;
-        Ok(Some(Graph {
+        Ok(Graph {
             profiles,
             neighbours,
-        }))
+        })
     }
 
     /// Borrows the profiles of the vertices.

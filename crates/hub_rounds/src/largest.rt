@@ -3,7 +3,7 @@
 //! This is the search of Carraghan and Pardalos (Operations Research Letters 9, 1990): with a vertex or without it, but not
 //! where too few vertices are left for a larger clique.
 
-use crate::graph::{Graph, STEPS, set_of};
+use crate::graph::{Graph, set_of};
 use std::alloc::{AllocError, Global};
 
 /// A part of the search: the cliques that have all vertices of a first clique, and of the others only some that are left.
@@ -14,23 +14,27 @@ struct Branch {
 }
 
 impl Branch {
-    /// Returns whether a clique of this branch may have more vertices than one of that size.
-    fn may_exceed(self, size: u32) -> bool {
-        (self.clique | self.left).count_ones() > size
+    /// Returns how many vertices its first clique has.
+    fn size(self) -> usize {
+        self.clique.count_ones() as usize
+    }
+
+    /// Returns whether a clique of this branch may have more vertices than that.
+    fn may_exceed(self, size: usize) -> bool {
+        (self.clique | self.left).count_ones() as usize > size
     }
 }
 
-/// Returns the profiles of a largest clique, in their order: of the largest one that was found, if `STEPS` weren't enough.
-/// There are none without a graph.
+/// Returns the profiles of a largest clique, in their order, if it has more of them than `size`, and else none. If so many steps
+/// weren't enough, it is the largest clique that was found. The steps that were not taken are left.
 pub(crate) fn largest_clique(
     alloc: Global,
-    graph: Option<&Graph>,
+    graph: &Graph,
+    size: usize,
+    steps: &mut usize,
 ) -> Result<Vec<usize>, AllocError> {
+    let clique = largest_set(alloc, graph, size, steps)?;
     let mut profiles = Vec::new(alloc);
-    let Some(graph) = graph else {
-        return Ok(profiles);
-    };
-    let clique = largest_set(alloc, graph)?;
     for (vertex, profile) in graph.profiles().iter().enumerate() {
         if clique & set_of(vertex) != 0 {
             profiles.push(*profile)?;
@@ -40,21 +44,29 @@ pub(crate) fn largest_clique(
 }
 
 /// Returns the set of its vertices.
-fn largest_set(alloc: Global, graph: &Graph) -> Result<u32, AllocError> {
-    let mut largest: u32 = 0;
+fn largest_set(
+    alloc: Global,
+    graph: &Graph,
+    size: usize,
+    steps: &mut usize,
+) -> Result<u32, AllocError> {
+    let mut size = size;
+    let mut largest = 0;
     let mut open = Vec::new(alloc);
     open.push(Branch {
         clique: 0,
         left: all_of(graph),
     })?;
-    for _ in 0..STEPS {
+    for _ in 0..*steps {
+        *steps = steps.saturating_sub(1);
         let Some(branch) = open.pop() else {
             return Ok(largest);
         };
-        if branch.clique.count_ones() > largest.count_ones() {
+        if branch.size() > size {
+            size = branch.size();
             largest = branch.clique;
         }
-        if branch.left != 0 && branch.may_exceed(largest.count_ones()) {
+        if branch.left != 0 && branch.may_exceed(size) {
             split(graph, branch, &mut open)?;
         }
     }

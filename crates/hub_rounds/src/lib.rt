@@ -4,7 +4,7 @@
 //! - [`rounds_of`] cuts the set into [`Rounds`]. The profiles of a round are a safe set, which `hub_search::check` has verified.
 //!   A profile that breaks a rule by itself is in no round. [`rounds_by_lines`] does the same for profiles that are no set,
 //!   by the lines that `hub_apart` finds.
-//! - [`rounds_of_lines`] makes the same rounds of numbers, by lines alone: [`NumberedRounds`]. Nothing is checked, and how many
+//! - [`rounds_of_lines`] makes rounds of numbers, by lines alone: [`NumberedRounds`]. Nothing is checked, and how many
 //!   profiles a round has isn't limited.
 //!
 //! ```rust
@@ -25,6 +25,12 @@
 //! Of at most 24 profiles the largest such clique is searched for (Carraghan and Pardalos). If it is smaller than the number of
 //! colours, fewer colours are searched for (Brélaz's DSATUR, by branch and bound). Both searches find the best, unless they
 //! take more steps than they may.
+//!
+//! For more profiles of a set there is no search. More numbers are searched part by part, in [`rounds_of_lines`]: two numbers are
+//! in the same part if they clash, or if others between them do, one with the next. As many colours will do as the part needs
+//! that needs the most. So each part of at most 24 numbers is searched as above, but only where that may change how many colours
+//! or rivals there are. The searches in all parts together may take 20 times the steps of those in one. Where they would take
+//! more, and in larger parts, numbers keep the colours from the passes.
 //!
 //! The clashes of each profile are kept as a sorted list, and so are the lines about it. So time and memory grow with the
 //! profiles and the lines, and with all pairs of profiles only where most of them clash.
@@ -54,21 +60,24 @@
 //!
 //! # What is not
 //!
-//! That `NotVerified` doesn't come, and that up to 24 profiles get the least number of rounds and the most rivals, is tested. How
-//! many more rounds than are needed more profiles get is neither.
+//! That `NotVerified` doesn't come, and that up to 24 profiles get the least number of rounds and the most rivals, is tested. So
+//! is that numbers do, if each part has up to 24. How many more rounds than are needed others get is neither.
 #![tactic(auto)]
 
+mod by_parts;
 mod clashes;
 mod clique;
 mod colouring;
 mod fault;
 mod graph;
 mod greedy;
+mod guess;
 mod largest;
 mod named;
 mod noted;
 mod numbered;
 mod painting;
+mod parts;
 mod placing;
 mod rounds;
 mod standing;

@@ -3,6 +3,7 @@ ghost use Rattle.std.specs.Prelude.{◌≡◌, IfOk};
 ghost use Rattle.hub_rounds.specs.Numbered as said;
 ghost use Rattle.hub_rounds.specs.Numbered.{AreRoundsOfLines};
 
+use crate::guess::Method;
 use crate::placing::{Obstacle, Placing};
 use crate::standing::{Standing, standing_of};
 use hub_cert::CheckFault;
@@ -30,12 +31,16 @@ pub struct LeftOut {
     pub reason: Obstacle,
 }
 
-/// Cuts the numbers below the count into rounds by these lines, as [`crate::rounds_by_lines`] cuts so many profiles. The rounds
-/// aren't checked: they are as good as the lines are.
+/// Cuts the numbers below the count into rounds by these lines. The rounds aren't checked: they are as good as the lines are.
 ///
 /// A number is left out exactly if a line is about it alone, and the first breach is reported, if there is one. Each other number
 /// is in exactly one round. No line is about two numbers of a round, or about one of them alone. How many numbers a round has
 /// isn't limited. What is kept while they are cut grows with the numbers and the lines.
+///
+/// If at most 24 numbers are in rounds, the rounds are those of [`crate::rounds_by_lines`]. If there are more, each connected part of
+/// the clashes is searched by itself that has at most 24 numbers. Tests show that the rounds are the fewest, and the rivals the most,
+/// where no part has more. All parts together may take 20 times the steps that one may take. So how long the searches take is
+/// bounded, and with very many parts that are hard to search there may be more rounds than are needed.
 pub fn rounds_of_lines(
     alloc: Global,
     count: usize,
@@ -47,7 +52,7 @@ pub fn rounds_of_lines(
         placings,
         rounds,
         rivals,
-    } = standing_of(alloc, count, lines)?;
+    } = standing_of(alloc, count, lines, Method::ByParts)?;
     Ok(NumberedRounds {
         rounds: numbered(alloc, placings.as_slice(), rounds)?,
         left: left_out(alloc, placings.as_slice())?,

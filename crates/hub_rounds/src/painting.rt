@@ -3,21 +3,22 @@
 //! This is Brélaz's DSATUR (Communications of the ACM 22, 1979), made exact: the next vertex is one whose neighbours have the
 //! most colours. It gets each colour in turn that is in use and free for it, and then a new one.
 
-use crate::graph::{Graph, STEPS, set_of};
+use crate::graph::{Graph, set_of};
 use std::alloc::{AllocError, Global};
 
 /// Returns the vertices of each colour, with fewer colours than `count` and as few as were found, but no fewer than `least`.
-/// Returns `None` if no such colours were found. They are the fewest, unless `STEPS` weren't enough.
+/// Returns `None` if no such colours were found. They are the fewest, unless so many steps weren't enough. The steps that were
+/// not taken are left.
 pub(crate) fn fewer_colours(
     alloc: Global,
     graph: &Graph,
     least: usize,
     count: usize,
+    steps: &mut usize,
 ) -> Result<Option<Vec<u32>>, AllocError> {
     let mut found = None;
-    let mut steps = STEPS;
     for bound in (least..count).rev() {
-        match painted_within(alloc, graph, bound, &mut steps)? {
+        match painted_within(alloc, graph, bound, steps)? {
             Some(classes) => found = Some(classes),
             None => return Ok(found),
         }

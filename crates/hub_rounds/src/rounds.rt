@@ -7,6 +7,7 @@ ghost use Rattle.hub_rounds.specs.Unverified.{IsFaultBelow, IsFaultOf, IsRoundsF
 
 use crate::clashes::Clashes;
 use crate::fault::RoundsFault;
+use crate::guess::Method;
 use crate::placing::Placed;
 use crate::standing::{Standing, placed_so, standing_of};
 use hub_cert::{CheckFault, ProfileSet};
@@ -64,7 +65,7 @@ pub fn rounds_by_lines(
         placings,
         rounds: count,
         rivals,
-    } = standing_of(alloc, profiles.len(), lines)?;
+    } = standing_of(alloc, profiles.len(), lines, Method::InTurn)?;
     let placed = placed_so(alloc, profiles.into_vec(), placings.as_slice())?;
     let (rounds, left, rules) = cut(alloc, placed, count, rules)?;
     Ok(Rounds {

@@ -3,9 +3,7 @@ ghost use Rattle.std.specs.Prelude.{◌≡◌, IfOk, Some, map, slice_get};
 ghost use Rattle.hub_rounds.specs.Numbered.{AreStanding, StandAsNumbers};
 
 use crate::clique::rivals_of;
-use crate::colouring::colours_of;
-use crate::graph::Graph;
-use crate::largest::largest_clique;
+use crate::guess::{Guess, Method, guess_of};
 use crate::named::Named;
 use crate::placing::{Placed, Placing, place_each};
 use hub_cert::CheckFault;
@@ -21,18 +19,17 @@ pub(crate) struct Standing {
     pub(crate) rivals: Items<usize>,
 }
 
-/// Says of each number below the count where it stands by these lines.
+/// Says of each number below the count where it stands by these lines. How many rounds there are depends on the method.
 pub(crate) fn standing_of(
     alloc: Global,
     count: usize,
     lines: &[CheckFault],
+    method: Method,
 ) -> Result<Standing, AllocError>
     ensures { IfOk result (AreStanding count lines.now) }
 {
     let named = Named::new(alloc, count, lines)?;
-    let graph = Graph::new(alloc, &named)?;
-    let clique = largest_clique(alloc, graph.as_ref())?;
-    let colours = colours_of(alloc, &named, graph.as_ref(), clique.len())?;
+    let Guess { colours, clique } = guess_of(alloc, &named, method)?;
     let (placings, rounds) = place_each(alloc, lines, &named, colours.as_slice(), count)?;
     let rivals = rivals_of(alloc, lines, &named, placings.as_slice(), clique.as_slice())?;
     Ok(Standing {

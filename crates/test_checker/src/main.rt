@@ -18,6 +18,7 @@
 //! - `clashes SET`: what each goal of the set shows, if it isn't ruled out (`rounds`).
 //! - `rounds SET`: the profiles of each round, then those that are in none, and how many rounds are needed.
 //! - `numbers SET`: the numbers of the profiles of each round, by the lines of `clashes`, and the rest as of `rounds`.
+//! - `pairs COUNT | PAIRS`: how many rounds so many numbers have, and how many are needed, if these pairs of them clash.
 //! - `unison SET`: the lines of the profiles in Unison, by who writes; or why there are none.
 //! - `apart SET`: the same as `rounds` where roots of profiles are nested; `not apart` if that isn't all that keeps these from being a set.
 //!
@@ -69,6 +70,7 @@ fn answer(alloc: Global, word: &str, fields: &str) -> Result<String> {
         "clashes" => rounds::clashes_answer(alloc, fields),
         "rounds" => rounds::rounds_answer(alloc, fields),
         "numbers" => rounds::numbers_answer(alloc, fields),
+        "pairs" => rounds::pairs_answer(alloc, fields),
         "unison" => rounds::unison_answer(alloc, fields),
         "apart" => rounds::apart_answer(alloc, fields),
         _ => subjects::answer(alloc, word, fields),

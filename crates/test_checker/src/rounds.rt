@@ -1,9 +1,9 @@
 //! What clashes in a set, and its rounds.
 use crate::faults::fault_text;
 use crate::sets::{members_of, set_of};
-use anyhow::{Result, bail};
+use anyhow::{Context, Result, bail};
 use hub_apart::{Apart, are_put_apart, lines_apart, lines_in_unison};
-use hub_cert::CheckFault;
+use hub_cert::{CheckFault, Goal, Place};
 use hub_profile::{Profile, Rules};
 use hub_rounds::{
     NumberedRounds, Obstacle, Placed, Placing, Rounds, RoundsFault, clashes_of, rounds_by_lines,
@@ -11,7 +11,7 @@ use hub_rounds::{
 };
 use hub_text::Items;
 use std::alloc::{AllocError, Global};
-use test_kit::{joined, shown};
+use test_kit::{first, joined, shown};
 
 /// What the goals of a set show, each as a fault; or `nothing`.
 pub(crate) fn clashes_answer(alloc: Global, fields: &str) -> Result<String> {
@@ -95,6 +95,40 @@ fn list_text(alloc: Global, numbers: &[usize]) -> Result<String, AllocError> {
         texts.push(format!(in alloc; "{number}")?)?;
     }
     texts.as_slice().join(alloc, " ")
+}
+
+/// How many rounds so many numbers have, and how many are needed, if these pairs of them clash.
+pub(crate) fn pairs_answer(alloc: Global, fields: &str) -> Result<String> {
+    let (count, pairs) = first(fields)?;
+    let lines = lines_of_pairs(alloc, pairs)?;
+    let rounds = rounds_of_lines(alloc, count.parse::<usize>()?, lines.as_slice())?;
+    Ok(counts_text(alloc, &rounds)?)
+}
+
+fn lines_of_pairs(alloc: Global, pairs: &str) -> Result<Vec<CheckFault>> {
+    let mut lines = Vec::new(alloc);
+    for pair in pairs.split(" | ") {
+        lines.push(line_of_pair(pair)?)?;
+    }
+    Ok(lines)
+}
+
+/// A line about two numbers. Where they meet doesn't matter to rounds.
+fn line_of_pair(pair: &str) -> Result<CheckFault> {
+    let (writer, other) = pair.split_once(' ').context("a pair has two numbers")?;
+    Ok(CheckFault::TooLarge {
+        goal: Goal::Clash {
+            writer: writer.parse::<usize>()?,
+            other: other.parse::<usize>()?,
+            place: Place::Archive,
+        },
+    })
+}
+
+fn counts_text(alloc: Global, rounds: &NumberedRounds) -> Result<String, AllocError> {
+    let count = rounds.rounds.len();
+    let least = rounds.rivals.len();
+    format!(in alloc; "{count} rounds | at least {least}")
 }
 
 /// The lines of the profiles in Unison, by who writes; or why there are none.

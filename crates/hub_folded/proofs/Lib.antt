@@ -6,6 +6,7 @@ mod Textual
 mod NormOf
 mod Plain
 mod Safe
+mod Anywhere
 mod Places
 mod Texts
 mod Known
@@ -17,5 +18,6 @@ mod LineText
 mod PiecesKnown
 mod KnownParts
 mod FoldedName
-mod FoldedPieces
 mod FoldedParts
+mod UnknownRules
+mod FoldedPieces

@@ -6,6 +6,7 @@ pub mod Table
 pub mod Lines
 pub mod Pieces
 pub mod OneLine
+pub mod Rules
 pub mod InUnison
 pub mod Read
 pub mod Seen

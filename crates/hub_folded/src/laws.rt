@@ -7,14 +7,15 @@ ghost use Rattle.hub_profile.specs.Facts.{are_kept};
 ghost use Rattle.hub_profile.specs.declared.rule.Rule.{Rule};
 ghost use Rattle.hub_profile.specs.Parts.{Parts};
 ghost use Rattle.hub_reach.specs.Safe.{IsSafe};
-ghost use Rattle.hub_unison.specs.Rules.{forbidden};
+ghost use Rattle.hub_unison.specs.Rules.{AreReadForUnison, forbidden};
 ghost use Rattle.hub_unison.specs.Shared.{ShareNoArchive};
+ghost use Rattle.hub_unison.specs.Written.{AreWrittenAs, Written};
 ghost use Rattle.hub_folded.specs.Fold.{Folding, IsTextual, knows_path, latin};
 ghost use Rattle.hub_folded.specs.Table.{unicode};
 ghost use Rattle.hub_folded.specs.declared.member.Member.{Member};
 ghost use Rattle.hub_folded.specs.Lines.{fold_rule, fold_spec, folded_member, folded_rules, folded_set, is_foldable, know_rules, some_fold, IsWithinLines};
 ghost use Rattle.hub_folded.specs.InUnison.{AreSpelled, IsNormOf, IsSafeFolded, KeepsRulesFolded, Lined, Norm, member_of, norm_of, norm_path, over_up_to};
-ghost use Rattle.hub_folded.specs.Read.{AreReadAsWritten, AreReadFolded};
+ghost use Rattle.hub_folded.specs.Read.{AreReadAsWritten, AreReadFolded, IsSafeWhereRead, readings_of};
 ghost use Rattle.hub_folded.specs.Seen.{AreRootsApart, FoldTogether, IsSafeAsOne, IsSafeAtRoots, KeepsRulesAsSeen, over_as_one};
 
 /// If the readings of the folded lines of some profiles beside folded rules are a safe set with these, by none of the profiles
@@ -37,6 +38,27 @@ pub fn readings_of_folded_lines_hold_in_unison()
         → AreReadAsWritten (folded_set F (map member_of Vs))
         (folded_rules F (map member_of Vs) Rs) Cs
         → AreReadFolded F Vs Rs Cs }
+{}
+
+/// If some names fold, the readings of the folded profiles of a set beside its folded rules hold for it up to folding. If no names
+/// fold, they are readings for Unison as it is.
+pub fn what_holds_of_folded_lines_holds_up_to_folding()
+    ensures folded { (F : Folding) (Vs : List Lined) (Rs : List Rule)
+        → some_fold (map member_of Vs) ≡ true → AreSpelled Vs
+        → AreReadFolded F Vs Rs (readings_of F (map member_of Vs) Rs) }
+    ensures plain { (F : Folding) (Ms : List Member) (Rs : List Rule) (Ws : List Written)
+        → some_fold Ms ≡ false → AreWrittenAs Ws (map (λ M. M.parts) Ms)
+        → AreReadForUnison Ws Rs (readings_of F Ms Rs) }
+{}
+
+/// If some names fold, and the readings of the folded profiles of a set are safe beside its folded rules, the set is safe: by none of
+/// the profiles Unison breaks a rule, and if no two of the readings have the same two roots, no two of the profiles clash. That holds up
+/// to folding, at names that are one, at paths that a rule's own pattern matches, and at roots that may be one folder.
+pub fn what_is_safe_folded_is_safe_anywhere()
+    ensures { (F : Folding) (Vs : List Lined) (Rs : List Rule)
+        → some_fold (map member_of Vs) ≡ true → AreSpelled Vs
+        → IsSafeWhereRead F Vs Rs (readings_of F (map member_of Vs) Rs)
+        (folded_rules F (map member_of Vs) Rs) }
 {}
 
 /// No two of the profiles clash at names that are one, by any relation of names of which no more is asked than that names that are

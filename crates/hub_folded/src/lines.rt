@@ -26,7 +26,7 @@ pub fn fold_spec(alloc: Global, spec: &PathSpec) -> Result<Option<PathSpec>, All
 }
 
 /// Returns what these fold to of which it is known.
-pub fn known_folded(alloc: Global, specs: &[PathSpec]) -> Result<Items<PathSpec>, AllocError>
+pub(crate) fn known_folded(alloc: Global, specs: &[PathSpec]) -> Result<Items<PathSpec>, AllocError>
     ensures { IfOk result (λ fs. fs ≡ lines.folded_specs unicode specs.now) }
 {
     let mut all = Items::new(alloc);
@@ -40,7 +40,10 @@ pub fn known_folded(alloc: Global, specs: &[PathSpec]) -> Result<Items<PathSpec>
 }
 
 /// Returns what these fold to, if it is known of each.
-pub fn all_folded(alloc: Global, specs: &[PathSpec]) -> Result<Option<Items<PathSpec>>, AllocError>
+pub(crate) fn all_folded(
+    alloc: Global,
+    specs: &[PathSpec],
+) -> Result<Option<Items<PathSpec>>, AllocError>
     ensures { IfOk result (λ o. o ≡ (if list_all (lines.knows_line unicode) specs.now
         then Some (map (lines.fold_spec unicode) specs.now) else None)) }
 {
@@ -55,7 +58,7 @@ pub fn all_folded(alloc: Global, specs: &[PathSpec]) -> Result<Option<Items<Path
 }
 
 /// Returns the bars on paths that stay, folded.
-pub fn folded_bars(alloc: Global, bars: &[Partial]) -> Result<Items<Partial>, AllocError>
+pub(crate) fn folded_bars(alloc: Global, bars: &[Partial]) -> Result<Items<Partial>, AllocError>
     ensures { IfOk result (λ bs. bs ≡ lines.folded_bars unicode bars.now) }
 {
     let mut all = Items::new(alloc);

@@ -16,7 +16,10 @@ use hub_text::Items;
 use std::alloc::{AllocError, Global};
 
 /// Returns what kept values fold to, if each is known, and they may be kept values when they are folded.
-pub fn folded_values(alloc: Global, paths: &[RelPath]) -> Result<Option<Items<RelPath>>, AllocError>
+pub(crate) fn folded_values(
+    alloc: Global,
+    paths: &[RelPath],
+) -> Result<Option<Items<RelPath>>, AllocError>
     ensures value { IfOk result (λ o. o ≡ (if lines.keeps_values unicode paths.now
         then Some (map (fold.fold_path unicode) paths.now) else None)) }
     ensures kept { IfOk result (λ o. IfSome o (λ values. IsTrue (are_kept values))) }
@@ -86,7 +89,7 @@ fn folded_name(alloc: Global, name: &Name) -> Result<Option<Name>, AllocError>
 
 /// Returns paths that are over all that these kept values stand for: of their first known names, folded and without a last `*`, the
 /// topmost, or the whole replica if these can't be kept values.
-pub fn tops_of(alloc: Global, paths: &[RelPath]) -> Result<Items<RelPath>, AllocError>
+pub(crate) fn tops_of(alloc: Global, paths: &[RelPath]) -> Result<Items<RelPath>, AllocError>
     ensures value { IfOk result (λ tops. tops ≡ lines.folded_tops unicode paths.now) }
     ensures kept { IfOk result (λ tops. IsTrue (are_kept tops)) }
 {

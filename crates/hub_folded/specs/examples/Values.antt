@@ -10,6 +10,8 @@ use Rattle.hub_glob.specs.declared.piece.Part.{Part}
 use Rattle.hub_glob.specs.declared.piece.Part.TheVariants.{One}
 use Rattle.hub_glob.specs.declared.piece.Piece.TheVariants.{Lit, Any, Run}
 use Rattle.hub_profile.specs.Parts.{Parts}
+use Rattle.hub_profile.specs.declared.rule.Rule.{Rule}
+use Rattle.hub_profile.specs.declared.verb.Verb.TheVariants.{Delete}
 use Rattle.hub_profile.specs.examples.Profiles.{hub, s1, s2, between}
 use Rattle.hub_reach.specs.Reach.{reach}
 use Rattle.hub_reach.specs.Safe.{Clash}
@@ -23,6 +25,7 @@ use Rattle.hub_folded.specs.Row.{row}
 use Rattle.hub_folded.specs.Table.{folding_by, unicode}
 use Rattle.hub_folded.specs.declared.member.Member.{Member}
 use Rattle.hub_folded.specs.Lines.{fold_spec, folded, folded_set, is_foldable, knows_line, knows_set, line_of, spread}
+use Rattle.hub_folded.specs.Rules.{first_unknown}
 use Rattle.hub_folded.specs.InUnison.{FoldedClash, Lined, Norm, norm_of, norm_path, reach_at}
 
 -- What these examples compute.
@@ -282,3 +285,14 @@ after_folding = refl
 
 no_rule : is_foldable any_name ≡ false
 no_rule = refl
+
+-- Such a rule is named by its number.
+abbrev keeping_at_hub : Specification → Rule
+keeping_at_hub s = record { root = hub; verb = Delete; spec = s }
+
+second_named : first_unknown unicode
+    (keeping_at_hub (text kind.Name (codes "A")) ∷ keeping_at_hub any_name ∷ []) ≡ Some 1
+second_named = refl
+
+none_named : first_unknown unicode (keeping_at_hub (text kind.Name (codes "A")) ∷ []) ≡ None
+none_named = refl

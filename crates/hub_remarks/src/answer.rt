@@ -11,6 +11,7 @@ use crate::proposed::{say_alone, say_taken_away};
 use crate::refusal::say_refusal;
 use crate::setting::say_setting_fault;
 use crate::text::{say_certificates_fault, say_state_fault};
+use crate::totals::say_totals;
 use crate::unison::{Listing, has_word, is_for_unison, say_more, say_yes};
 use crate::words::say_words;
 use hub_bundle::SectionFault;
@@ -152,6 +153,7 @@ fn remarks_on_yes(source: &Source<'_>, exchange: Exchange<'_>) -> Result<Remarks
         say_yes(&mut text, source, exchange.input, listing)?;
     }
     exchange.say_unused(&mut text)?;
+    say_totals(&mut text, source.alloc(), exchange.answers.totals)?;
     Ok(Remarks { text, may_mislead })
 }
 
@@ -164,6 +166,7 @@ fn remarks_on_no(source: &Source<'_>, exchange: Exchange<'_>) -> Result<Remarks,
     exchange.say_lines(&mut text, source)?;
     say_no(&mut text, source, exchange)?;
     exchange.say_unused(&mut text)?;
+    say_totals(&mut text, source.alloc(), exchange.answers.totals)?;
     Ok(Remarks {
         text,
         may_mislead: false,

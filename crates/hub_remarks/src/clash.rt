@@ -5,7 +5,7 @@ use crate::mend::{is_bundle, is_mend};
 use crate::refusal::{broken_rule, named_profiles};
 use crate::unison::is_for_unison;
 use hub_notes::wider_notes;
-use hub_report::{Refusal, Told};
+use hub_report::{Refusal, Told, Totals};
 use hub_source::{Said, Source, SourceFile, SourceLine};
 use hub_text::Lines;
 use std::alloc::{AllocError, Global};
@@ -38,6 +38,8 @@ pub struct Answers<'a> {
     pub check: Option<&'a Reply>,
     /// The first bytes of the answer itself.
     pub output: &'a [u8],
+    /// The numbers of the answer itself, if it has any.
+    pub totals: Option<Totals>,
 }
 
 /// What is to be asked on an answer. The arguments are those of `remark`.

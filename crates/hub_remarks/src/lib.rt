@@ -8,7 +8,7 @@
 //!
 //! From `hubsync/src/served.rt`.
 //!
-//! The answer comes as a value (`Told` of `hub_report`): what it names (a profile, a section, a line, a root, a rule) is looked up in the
+//! The answer comes as a value (`Told` and `Totals` of `hub_report`): what it names (a profile, a section, a line, a root, a rule) is looked up in the
 //! lines of the input (`hub_source`). So this crate takes part in no answer, and it reads none that was printed. It reads no profile but
 //! for the lines that an answer for Unison leaves out or refuses (`hub_preferences`), or that are too long for it (`hub_unison`).
 //!
@@ -18,7 +18,8 @@
 //!   line that ignores a path: `ignored`. Words that ask for nothing: `words`.
 //! - A yes that may mislead: the crate `hub_notes`, and `folded`. An answer for Unison: `unison`, `limit`. Lines that make a set safe:
 //!   `mend`, and what they take away: `proposed`.
-//! - What hubsync is asked about an overlap or a breach ([`what_to_ask`]), and its [`Answers`]: `clash`.
+//! - What hubsync is asked about an overlap or a breach ([`what_to_ask`]), and its [`Answers`]: `clash`. The numbers of a long answer:
+//!   `totals`.
 //!
 //! The text is free, and is only tested (`examples/remarks.txt`). What is proved is that each function is safe and ends.
 //!
@@ -44,6 +45,7 @@ mod remedy;
 mod remote;
 mod setting;
 mod text;
+mod totals;
 mod unison;
 mod unknown;
 mod value;

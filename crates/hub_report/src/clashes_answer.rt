@@ -5,14 +5,14 @@ ghost use Rattle.hub_report.specs.ClashesAnswer as spec;
 
 use crate::graph::Graph;
 use crate::rounds::Cut;
-use crate::told::{Answer, Refusal, Told};
+use crate::told::{Answer, Clashing, Told};
 use std::alloc::{AllocError, Global};
 
 /// What clashes in a set, or its rounds.
 #[derive(Drop)]
 pub enum ClashesAnswer {
-    /// The lines of all that clashes in the set, and of all that breaks a rule, and what the first one says. There is at least one.
-    Lines(String, Refusal),
+    /// The lines of all that clashes in the set, and of all that breaks a rule, what the first one says, and how many there are. There is at least one.
+    Lines(String, Clashing),
     /// The same, as a graph.
     Graph(Graph),
     /// The rounds of the set.
@@ -46,13 +46,14 @@ impl ClashesAnswer {
         ensures { IfOk result (λ a. bytes_in a.text ≡ spec.text_of self) }
     {
         match self {
-            ClashesAnswer::Lines(lines, first) => {
-                Answer::of_bytes(alloc, lines.into_bytes(), Told::Refused(first))
+            ClashesAnswer::Lines(lines, clashing) => {
+                let told = Told::Refused(clashing.first);
+                Answer::with_totals(alloc, lines, told, clashing.totals)
             }
             ClashesAnswer::Graph(graph) => {
                 Answer::of_bytes(alloc, graph.text.into_bytes(), Told::Yes)
             }
-            ClashesAnswer::Cut(cut) => Answer::of_bytes(alloc, cut.text.into_bytes(), Told::Yes),
+            ClashesAnswer::Cut(cut) => Answer::with_totals(alloc, cut.text, Told::Yes, cut.totals),
         }
     }
 }

@@ -32,7 +32,11 @@ impl FaultyInput {
     {
         let text = self.text(alloc)?;
         let told = Told::Faulty(self);
-        Ok(Answer { text, told })
+        Ok(Answer {
+            text,
+            told,
+            totals: None,
+        })
     }
 
     /// The line of the fault.

@@ -13,7 +13,8 @@
 //! - [`plan_of`] is the [`Plan`] of Unison's runs for a program that runs it, by the [`Roster`] of an input's profiles.
 //! - [`lines_of_alone`] are the lines of the profiles that aren't read, beside which no other may run.
 //! - [`undecided_pairs`] are the lines for standard error: which two profiles were too large to decide.
-//! - [`Blocks`] is the text of an answer, in blocks. [`Told`] is what the answer tells, as a value for remarks on it.
+//! - [`Blocks`] is the text of an answer, in blocks. [`Told`] is what the answer tells, as a value for remarks on it, and
+//!   [`Totals`] are its numbers.
 //!
 //! ```rust
 //! let report = report_on(rt, alloc, asked, input, progress);
@@ -24,10 +25,12 @@
 //!     Ok(answer) => Served {
 //!         status: write_text(&answer.text, status, output),
 //!         told: answer.told,
+//!         totals: answer.totals,
 //!     },
 //!     Err(_) => Served {
 //!         status: write_out_of_memory(output),
 //!         told: Told::Other,
+//!         totals: None,
 //!     },
 //! }
 //! ```
@@ -51,7 +54,7 @@
 //!
 //! # What is not
 //!
-//! When an answer is right is said in `hub_serve`. What [`Told`] says is only tested. What `undecided_pairs` gives goes to standard error, which no contract sees.
+//! When an answer is right is said in `hub_serve`. What [`Told`] and [`Totals`] say is only tested. What `undecided_pairs` gives goes to standard error, which no contract sees.
 #![tactic(auto)]
 
 mod alone;
@@ -79,6 +82,7 @@ mod rounds_run;
 mod run;
 mod run_answer;
 mod told;
+mod totals;
 mod undecided;
 mod unison_answer;
 mod verdict;
@@ -101,7 +105,8 @@ pub use rounds::{Cut, text_of_numbers, text_of_rounds};
 pub use rounds_run::RoundsRun;
 pub use run::Run;
 pub use run_answer::RunAnswer;
-pub use told::{Answer, NotRun, Refusal, Told, ToldMended};
+pub use told::{Answer, Clashing, NotRun, Refusal, Told, ToldMended};
+pub use totals::Totals;
 pub use undecided::undecided_pairs;
 pub use unison_answer::UnisonAnswer;
 pub use verdict::Verdict;

@@ -70,7 +70,7 @@ fn unison_overlap(
 }
 
 /// The writer's root at a replica.
-fn root_at_place(writer: Option<&Profile>, place: Place) -> Option<&Root>
+pub(crate) fn root_at_place(writer: Option<&Profile>, place: Place) -> Option<&Root>
     ensures { option_map (λ r. r.now) result
         ≡ lines.root_at_place (option_map (λ W. W.now) writer.entry) place }
 {

@@ -53,7 +53,7 @@ impl PlanAnswer {
     {
         match self {
             PlanAnswer::Made(plan) => Answer::of_bytes(alloc, plan.text.into_bytes(), Told::Yes),
-            PlanAnswer::Cut(cut) => Answer::of_bytes(alloc, cut.text.into_bytes(), Told::Yes),
+            PlanAnswer::Cut(cut) => Answer::with_totals(alloc, cut.text, Told::Yes, cut.totals),
             PlanAnswer::Refused(line, refusal) => {
                 Answer::of_bytes(alloc, line.into_bytes(), Told::Refused(refusal))
             }

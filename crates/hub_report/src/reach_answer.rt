@@ -40,7 +40,11 @@ impl ReachAnswer<'_> {
     {
         let text = self.text(alloc)?;
         let told = self.told();
-        Ok(Answer { text, told })
+        Ok(Answer {
+            text,
+            told,
+            totals: None,
+        })
     }
 
     /// The answer in words, or the line of the fault.

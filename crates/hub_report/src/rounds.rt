@@ -6,6 +6,7 @@ ghost use Rattle.hub_report.specs.Rounds as lines;
 
 use crate::parts::push_all;
 use crate::refusal::name_at;
+use crate::totals::Totals;
 use hub_profile::Profile;
 use hub_rounds::{LeftOut, NumberedRounds, Obstacle, Placed, Placing, Rounds};
 use hub_text::Items;
@@ -20,6 +21,8 @@ pub struct Cut {
     pub decided: bool,
     /// Lines for standard error: two profiles each that count as clashing, since their goal was too large.
     pub undecided: String,
+    /// The numbers of what clashes, if the profiles were judged as Unison may run them.
+    pub totals: Option<Totals>,
 }
 
 /// How many rounds there are and how many are needed at least, then the profiles of each round, and those that are in none.

@@ -50,7 +50,11 @@ impl RunAnswer {
     {
         let told = self.told();
         let text = self.into_text(alloc)?;
-        Ok(Answer { text, told })
+        Ok(Answer {
+            text,
+            told,
+            totals: None,
+        })
     }
 
     /// The text of the answer.

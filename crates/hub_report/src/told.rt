@@ -1,9 +1,10 @@
 //! What was answered, as a value for remarks on it.
-ghost use Rattle.std.specs.Prelude.{◌≡◌, IfOk};
+ghost use Rattle.std.specs.Prelude.{◌≡◌, IfOk, string_bytes};
 ghost use Rattle.hub_report.specs.Blocks.{bytes_in};
 
 use crate::blocks::{Blocks, block_of};
 use crate::faulty_input::FaultyInput;
+use crate::totals::Totals;
 use hub_automaton::AutomatonFault;
 use hub_cert::{CheckFault, Goal};
 use hub_path::{Name, PathFault, RelPath, Root};
@@ -17,6 +18,8 @@ pub struct Answer {
     pub text: Blocks,
     /// What it tells.
     pub told: Told,
+    /// Its numbers, if it is about all that clashes, or has rounds.
+    pub totals: Option<Totals>,
 }
 
 impl Answer {
@@ -25,7 +28,11 @@ impl Answer {
         ensures { IfOk result (λ a. bytes_in a.text ≡ line.now) }
     {
         let text = block_of(alloc, line)?;
-        Ok(Answer { text, told })
+        Ok(Answer {
+            text,
+            told,
+            totals: None,
+        })
     }
 
     /// The answer with the text of these bytes.
@@ -33,8 +40,34 @@ impl Answer {
         ensures { IfOk result (λ a. bytes_in a.text ≡ bytes.items) }
     {
         let text = Blocks::new(alloc, bytes)?;
-        Ok(Answer { text, told })
+        Ok(Answer {
+            text,
+            told,
+            totals: None,
+        })
     }
+
+    /// The answer with this text and these numbers.
+    pub(crate) fn with_totals(
+        alloc: Global,
+        text: String,
+        told: Told,
+        totals: Option<Totals>,
+    ) -> Result<Answer, AllocError>
+        ensures { IfOk result (λ a. bytes_in a.text ≡ string_bytes text) }
+    {
+        let text = Blocks::new(alloc, text.into_bytes())?;
+        Ok(Answer { text, told, totals })
+    }
+}
+
+/// What is wrong in a set first, and how much is in all.
+#[derive(Drop)]
+pub struct Clashing {
+    /// What the first line says.
+    pub first: Refusal,
+    /// The numbers of all, if the profiles were judged as Unison may run them.
+    pub totals: Option<Totals>,
 }
 
 /// What an answer tells, for remarks on it.

@@ -114,6 +114,7 @@ fn cut_beside(
         text,
         decided,
         undecided,
+        totals,
     } = cut_of(alloc, archives, found)?;
     let mut text = text;
     text.push_str(alone.as_str())?;
@@ -121,6 +122,7 @@ fn cut_beside(
         text,
         decided: decided && known,
         undecided,
+        totals,
     })
 }
 

@@ -12,7 +12,7 @@ use crate::answer::report_on;
 use crate::laws::what_is_shown_is_not_safe;
 use crate::progress::Progress;
 use hub_cli::{Error, ErrorKind, Query, read_words};
-use hub_report::{Blocks, OUT_OF_MEMORY, Told};
+use hub_report::{Blocks, OUT_OF_MEMORY, Told, Totals};
 use hub_text::Watched;
 use std::alloc::Global;
 use std::convert::AsStr;
@@ -95,6 +95,8 @@ pub struct Served {
     pub status: u8,
     /// What was answered, as a value for remarks on it.
     pub told: Told,
+    /// The numbers of what clashes, if the answer is about all of that or has rounds, of profiles as Unison may run them.
+    pub totals: Option<Totals>,
 }
 
 /// Does what `serve` does, and also returns what was answered.
@@ -133,6 +135,7 @@ fn refuse<T: Eprint, W: Write>(rt: &T, error: &Error, output: &mut Watched<W>) -
         return Served {
             status: write_out_of_memory(output),
             told: Told::Other,
+            totals: None,
         };
     }
     // if standard error fails too, there is nobody left to tell
@@ -140,6 +143,7 @@ fn refuse<T: Eprint, W: Write>(rt: &T, error: &Error, output: &mut Watched<W>) -
     Served {
         status: 2,
         told: Told::Nothing,
+        totals: None,
     }
 }
 
@@ -180,10 +184,12 @@ fn answer<T: Eprint + Threads + Wait + Sync, R: Read, W: Write, P: Progress + Sy
         Ok(answer) => Served {
             status: write_text(&answer.text, status, output),
             told: answer.told,
+            totals: answer.totals,
         },
         Err(_) => Served {
             status: write_out_of_memory(output),
             told: Told::Other,
+            totals: None,
         },
     }
 }

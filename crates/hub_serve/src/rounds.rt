@@ -17,8 +17,8 @@ use hub_cert::{CheckFault, ProfileSet};
 use hub_cli::Reading;
 use hub_profile::{Profile, Rules};
 use hub_report::{
-    ClashesAnswer, Cut, Graph, Refusal, Report, Verdict, graph_of_clashes, lines_of_clashes,
-    text_of_rounds, undecided_pairs,
+    ClashesAnswer, Clashing, Cut, Graph, Refusal, Report, Verdict, graph_of_clashes,
+    lines_of_clashes, text_of_rounds, undecided_pairs,
 };
 use hub_rounds::{Rounds, RoundsFault, clashes_of, rounds_by_lines};
 use hub_search::faults;
@@ -43,8 +43,12 @@ pub fn report_on_clashes<'a>(alloc: Global, set: &ProfileSet, reading: Reading) 
     let Ok(first) = first_refusal(set, clashes.lines(), archives.as_slice()) else {
         return Report::OutOfMemory;
     };
+    let clashing = Clashing {
+        first,
+        totals: None,
+    };
     match lines_of_clashes(alloc, set, &clashes, archives.as_slice()) {
-        Ok(lines) => Report::Clashes(ClashesAnswer::Lines(lines, first)),
+        Ok(lines) => Report::Clashes(ClashesAnswer::Lines(lines, clashing)),
         Err(AllocError) => Report::OutOfMemory,
     }
 }
@@ -178,6 +182,7 @@ fn cut_of(
         text,
         decided,
         undecided,
+        totals: None,
     })
 }
 

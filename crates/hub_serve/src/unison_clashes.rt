@@ -15,8 +15,8 @@ use hub_apart::Apart;
 use hub_cert::CheckFault;
 use hub_profile::Rule;
 use hub_report::{
-    ClashesAnswer, Cut, Graph, Refusal, Report, UnisonAnswer, archive_line, graph_of_clashes,
-    line_in_unison, lines_in_unison, text_of_numbers, undecided_pairs,
+    ClashesAnswer, Clashing, Cut, Graph, Refusal, Report, Totals, UnisonAnswer, archive_line,
+    graph_of_clashes, line_in_unison, lines_in_unison, text_of_numbers, undecided_pairs,
 };
 use hub_rounds::{NumberedRounds, rounds_of_lines};
 use std::alloc::{AllocError, Global};
@@ -103,13 +103,28 @@ fn report_on_lines<'a>(alloc: Global, archives: &[(usize, usize)], found: &Apart
     if lines.is_empty() && archives.is_empty() {
         return Report::InUnison(UnisonAnswer::Safe);
     }
-    let Ok(first) = first_refusal(rules, lines, archives) else {
+    let Ok(clashing) = clashing_of(alloc, archives, found) else {
         return Report::OutOfMemory;
     };
     match lines_in_unison(alloc, found.profiles.as_slice(), rules, lines, archives) {
-        Ok(text) => Report::InUnison(UnisonAnswer::Clashes(ClashesAnswer::Lines(text, first))),
+        Ok(text) => Report::InUnison(UnisonAnswer::Clashes(ClashesAnswer::Lines(text, clashing))),
         Err(AllocError) => Report::OutOfMemory,
     }
+}
+
+/// What the first line says, or the first shared archive, and how much clashes.
+fn clashing_of(
+    alloc: Global,
+    archives: &[(usize, usize)],
+    found: &Apart,
+) -> Result<Clashing, AllocError> {
+    let lines = found.lines.as_slice();
+    let first = first_refusal(found.rules.as_slice(), lines, archives)?;
+    let totals = Totals::of(alloc, found.profiles.as_slice(), lines, archives, None)?;
+    Ok(Clashing {
+        first,
+        totals: Some(totals),
+    })
 }
 
 /// What the first of these lines says, or of these shared archives.
@@ -166,11 +181,13 @@ pub(crate) fn cut_of(
     let undecided = undecided_pairs(alloc, profiles, lines)?;
     let rounds = rounds_of_lines(alloc, profiles.len(), lines)?;
     let text = text_of_numbers(alloc, profiles, &rounds)?;
+    let totals = Totals::of(alloc, profiles, lines, &[], Some(rounds.rounds.len()))?;
     let decided = are_decided(lines, &rounds);
     Ok(Cut {
         text,
         decided,
         undecided,
+        totals: Some(totals),
     })
 }
 

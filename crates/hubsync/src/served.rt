@@ -5,7 +5,7 @@ ghost use Rattle.hubsync.specs.Written.{ServesFor};
 use crate::captured::{Captured, Prefix};
 use crate::terminal::Terminal;
 use hub_remarks::{Answers, Questions, Remarks, Reply, remark, what_to_ask};
-use hub_report::Told;
+use hub_report::Totals;
 use hub_serve::{NoProgress, Served, serve_and_tell};
 use hub_source::SourceFile;
 use hub_text::Watched;
@@ -89,7 +89,7 @@ pub fn serve_with_remarks<
 {
     let progress = Terminal::new(rt, capture.by_terminal);
     let served = serve_and_tell(rt, words, input, output, &progress);
-    let may_mislead = say_remarks(rt, words, files, capture, output.failed(), &served.told);
+    let may_mislead = say_remarks(rt, words, files, capture, output.failed(), &served);
     Answered {
         status: served.status,
         may_mislead,
@@ -104,7 +104,7 @@ fn say_remarks<T: AllocGlobal + Clock + Eprint + Threads + Wait + Sync>(
     files: &[SourceFile<'_>],
     capture: &Capture,
     is_cut: bool,
-    told: &Told,
+    served: &Served,
 ) -> bool {
     let (Ok(input), Ok(output)) = (capture.input.try_borrow(), capture.output.try_borrow()) else {
         return true;
@@ -116,7 +116,7 @@ fn say_remarks<T: AllocGlobal + Clock + Eprint + Threads + Wait + Sync>(
     if let Some(error) = input.error() {
         let _ = eprintln!(rt; "hubsync: standard input can't be read: {error}");
     }
-    match remarks_on(rt, words, files, &input, &output, told) {
+    match remarks_on(rt, words, files, &input, &output, served) {
         Ok(remarks) => {
             let text = remarks.text.as_str();
             let _ = eprint!(rt; "{text}");
@@ -133,28 +133,31 @@ fn remarks_on<T: AllocGlobal + Clock + Eprint + Threads + Wait + Sync>(
     files: &[SourceFile<'_>],
     input: &Prefix,
     output: &Prefix,
-    told: &Told,
+    served: &Served,
 ) -> Result<Remarks, AllocError> {
     let input = input.first_bytes()?;
+    let told = &served.told;
     let asked = what_to_ask(rt.alloc(), words, files, input, told)?;
     let mend = reply_on_mend(rt, &asked)?;
     let check = reply_on_check(rt, &asked, input.bytes)?;
     let output = output.first_bytes()?;
-    let answers = answers_of(&mend, &check, output.bytes);
+    let answers = answers_of(&mend, &check, output.bytes, served.totals);
     let remarks = remark(rt.alloc(), words, files, input, told, answers)?;
     Ok(remarks)
 }
 
-/// What was answered to each question that was asked, and the first bytes of the answer.
+/// What was answered to each question that was asked, the first bytes of the answer, and its numbers.
 fn answers_of<'a>(
     mend: &'a Option<Reply>,
     check: &'a Option<Reply>,
     output: &'a [u8],
+    totals: Option<Totals>,
 ) -> Answers<'a> {
     Answers {
         mend: mend.as_ref(),
         check: check.as_ref(),
         output,
+        totals,
     }
 }
 

@@ -1,6 +1,6 @@
 -- What is answered over files.
-use Rattle.std.specs.Prelude.{◌≡◌, ◌⊎◌, ◌++◌, ℕ, Bool, false, not, true, ◌&&◌, List, [], ◌∷◌, Option, Some, None, Ok, Err, IfSome, is_some, codes, map, string_bytes}
-use Rattle.std.specs.List.{All, Contains, find, list_any, slice_get}
+use Rattle.std.specs.Prelude.{◌≡◌, ◌⊎◌, ◌++◌, ℕ, Bool, false, not, true, ◌&&◌, ◌||◌, List, [], ◌∷◌, Option, Some, None, Ok, Err, IfSome, is_some, codes, map, string_bytes}
+use Rattle.std.specs.List.{All, Contains, find, list_all, list_any, slice_get}
 use Rattle.hub_archives.specs.Found.{AreKeptOut, IsHeld}
 use Rattle.hub_archives.specs.declared.found.HeldArchives.{HeldArchives}
 use Rattle.hub_path.specs.Path.{Path}
@@ -20,7 +20,7 @@ use Rattle.hub_folder.specs.declared.fault.Untaken.{Untaken}
 use Rattle.hub_folder.specs.declared.fault.Untaken.TheVariants as untaken
 use Rattle.hub_folder.specs.declared.reader.ReadFault.{ReadFault}
 use Rattle.hub_hosts.specs.Profiles.{text_for}
-use Rattle.hub_hosts.specs.Remotes.{has_machine, has_own_row}
+use Rattle.hub_hosts.specs.Remotes.{has_machine, has_own_row, is_here, is_of}
 use Rattle.hub_hosts.specs.Table.{Row, rows_of}
 use Rattle.hub_hosts.specs.declared.fault.HostsFault.{HostsFault}
 use Rattle.hub_hosts.specs.declared.fault.HostsFault.TheVariants as hosts_fault
@@ -213,14 +213,34 @@ IsTable reads (Some file) table =
     (bytes : List ℕ) × (rows : List Row) × HasBytes reads file bytes
     × (rows_of bytes ≡ Ok rows) × (table ≡ Some rows)
 
+-- The host of a row is this machine's, if there is one.
+abbrev pub is_host_of : Row → Option (List ℕ) → Bool
+is_host_of row None = false
+is_host_of row (Some machine) = is_of machine row
+
+-- An operand names the machine that is the host of a row.
+abbrev pub names_host : List ℕ → Row → Bool
+names_host operand row = is_host_of row (machine_of operand)
+
+abbrev pub is_named : List (List ℕ) → Row → Bool
+is_named operands row = list_any (λ o. names_host o row) operands
+
+-- A table of hosts tells which one this machine is: a row has the path `/`, and each other host of the
+-- table is one of the machines that these operands name.
+abbrev pub is_known : List Row → List (List ℕ) → Row → Bool
+is_known rows operands row = is_here rows row || is_named operands row
+
+abbrev pub tells_own : List Row → List (List ℕ) → Bool
+tells_own rows operands = has_own_row rows && list_all (is_known rows operands) rows
+
 -- The machine of an operand that names one has no row in a table of hosts, or there is no table. An
--- operand that names none is of this machine. Beside one that does, this machine needs a row too, or
--- its folders may have two names.
-abbrev pub lacks_row : Bool → Option (List Row) → Option (List ℕ) → Bool
-lacks_row others None None = others
-lacks_row others (Some rows) None = others && not (has_own_row rows)
-lacks_row others None (Some machine) = true
-lacks_row others (Some rows) (Some machine) = not (has_machine rows machine)
+-- operand that names none is of this machine. Beside one that does, the table must tell which host
+-- this machine is, or its folders may have two names.
+abbrev pub lacks_row : Bool → Option (List Row) → List (List ℕ) → Option (List ℕ) → Bool
+lacks_row others None operands None = others
+lacks_row others (Some rows) operands None = others && not (tells_own rows operands)
+lacks_row others None operands (Some machine) = true
+lacks_row others (Some rows) operands (Some machine) = not (has_machine rows machine)
 
 -- The first operand of a machine without a row.
 abbrev pub name_machines : List (List ℕ) → Bool
@@ -228,7 +248,7 @@ name_machines operands = list_any (λ o. is_some (machine_of o)) operands
 
 abbrev pub unknown_host : Option (List Row) → List (List ℕ) → Option (List ℕ)
 unknown_host table operands =
-    find (λ o. lacks_row (name_machines operands) table (machine_of o)) operands
+    find (λ o. lacks_row (name_machines operands) table operands (machine_of o)) operands
 
 -- The label of a profile that an operand names.
 abbrev pub profile_label : Owned → Label

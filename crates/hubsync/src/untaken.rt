@@ -155,7 +155,7 @@ pub fn write_unknown_host<T: AllocGlobal + Eprint, W: Write>(
     status
 }
 
-/// Says on standard error that the table of hosts wants a line for this machine. If that fails, there is nobody left to tell.
+/// Says on standard error how to tell which host this machine is. If that fails, there is nobody left to tell.
 fn say_own_row<T: AllocGlobal + Eprint>(rt: &T, has_table: bool) -> Result<(), AllocError> {
     let file = if has_table {
         "the table of --hosts"
@@ -163,12 +163,11 @@ fn say_own_row<T: AllocGlobal + Eprint>(rt: &T, has_table: bool) -> Result<(), A
         "a table of --hosts FILE"
     };
     let _ = eprintln!(rt;
-        "hubsync: this operand has profiles of this machine, and others name theirs: {file} must say which host this one is,"
+        "hubsync: this operand has profiles of this machine, and others name theirs: write HOST= before it, too, where HOST is how roots of the others name this machine,"
     );
     let _ = eprintln!(rt;
-        "hubsync: by a line of the name that others call it, a blank and a slash, as:"
+        "hubsync: and give HOST the path / in {file}: by another name of this machine clashes would be missed"
     );
-    let _ = eprintln!(rt; "hubsync:     hub /");
     Ok(())
 }
 

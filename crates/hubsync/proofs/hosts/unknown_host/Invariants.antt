@@ -8,5 +8,5 @@ use Rattle.hubsync.proofs.hosts.unknown_host.Given as goal
 
 abbrev pub invariant-loop-operand : goal.invariant-loop-operand
 invariant-loop-operand l =
-    find (λ o. lacks_row l.others (table_in l.hosts) (machine_of o)) (texts_in (drop l.operand-index l.operands))
+    find (λ o. lacks_row l.others (table_in l.hosts) (texts_in l.operands) (machine_of o)) (texts_in (drop l.operand-index l.operands))
     ≡ unknown_host (table_in l.hosts) (texts_in l.operands)

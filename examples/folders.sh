@@ -861,17 +861,30 @@ LINES
     put machines/named 'pc /hosts/pc' 'hub /hosts/hub' 'hub~ /'
     ask 2 check --unison pc=machines/pc machines/hub --hosts machines/named <<LINES
 fault: machines/hub: UnknownHost
-hubsync: this operand has profiles of this machine, and others name theirs: the table of --hosts must say which host this one is,
-hubsync: by a line of the name that others call it, a blank and a slash, as:
-hubsync:     hub /
+hubsync: this operand has profiles of this machine, and others name theirs: write HOST= before it, too, where HOST is how roots of the others name this machine,
+hubsync: and give HOST the path / in the table of --hosts: by another name of this machine clashes would be missed
 LINES
     ask 2 check --unison machines/hub pc=machines/pc <<LINES
 fault: machines/hub: UnknownHost
-hubsync: this operand has profiles of this machine, and others name theirs: a table of --hosts FILE must say which host this one is,
-hubsync: by a line of the name that others call it, a blank and a slash, as:
-hubsync:     hub /
+hubsync: this operand has profiles of this machine, and others name theirs: write HOST= before it, too, where HOST is how roots of the others name this machine,
+hubsync: and give HOST the path / in a table of --hosts FILE: by another name of this machine clashes would be missed
 LINES
-    ask 1 check --unison machines/hub pc=machines/pc --hosts machines/table <<LINES
+    # a host of the table that is neither this machine nor one of an operand may be another name of this machine
+    ask 2 check --unison machines/hub pc=machines/pc --hosts machines/table <<LINES
+fault: machines/hub: UnknownHost
+hubsync: this operand has profiles of this machine, and others name theirs: write HOST= before it, too, where HOST is how roots of the others name this machine,
+hubsync: and give HOST the path / in the table of --hosts: by another name of this machine clashes would be missed
+LINES
+    ask 1 check --unison hub=machines/hub pc=machines/pc --hosts machines/table <<LINES
+overlap: hub=docs writes a at /srv/docs, pc=docs reaches a
+hubsync: hub=docs (machines/hub/docs.prf line 3): path = a
+hubsync: pc=docs (machines/pc/docs.prf line 3): path = a
+hubsync: run one after the other, or give one other paths, an ignore or a bar
+$wider
+hubsync: without --unison: overlap: hub=docs writes a at /srv/docs, pc=docs reaches a
+LINES
+    put machines/told 'pc /hosts/pc' 'hub /' 'pc~ /hosts/pc/home' 'anna@PC /hosts/anna'
+    ask 1 check --unison machines/hub pc=machines/pc --hosts machines/told <<LINES
 overlap: docs writes a at /srv/docs, pc=docs reaches a
 hubsync: docs (machines/hub/docs.prf line 3): path = a
 hubsync: pc=docs (machines/pc/docs.prf line 3): path = a
@@ -900,6 +913,31 @@ fault: a=a=b: UnknownHost
 hubsync: add this line to the table of --hosts, with the path of its / here:
 hubsync:     a /hosts/a
 LINES
+}
+
+# Below an answer about many profiles stand its numbers.
+try_totals() {
+    local number
+    for number in $(seq 10 31); do
+        put "totals/p$number.prf" 'root = /srv/hub' "root = /srv/s$number" "path = team$number"
+    done
+    ask 0 clashes --unison totals <<LINES
+safe
+$assumed
+LINES
+    { printf 'rounds 1\nat least 1\n'; printf 'round 1 p%s\n' $(seq 10 31); printf '%s\n' "$assumed" \
+        'hubsync: 22 profiles, 231 pairs: none clash; 1 round'; } | ask 0 rounds --unison totals
+    put totals/p31.prf 'root = /srv/hub' 'root = /srv/s31' 'path = team30/a'
+    ask 1 clashes --unison totals <<LINES
+overlap: p30 writes team30 at /srv/hub, p31 reaches team30/a
+overlap: p31 writes team30/a at /srv/hub, p30 reaches team30/a
+hubsync: p30 (totals/p30.prf line 3): path = team30
+hubsync: p31 (totals/p31.prf line 3): path = team30/a
+hubsync: run one after the other, or give one other paths, an ignore or a bar
+hubsync: 22 profiles, 231 pairs: 1 clashes, in 1 place
+LINES
+    { printf 'rounds 2\nat least 2\n'; printf 'round 1 p%s\n' $(seq 10 30); echo 'round 2 p31'; printf '%s\n' "$assumed" \
+        'hubsync: 22 profiles, 231 pairs: 1 clashes, in 1 place; 2 rounds'; } | ask 0 rounds --unison totals
 }
 
 # All profiles of an office, and of the samples in Unison's manual, each by one call.
@@ -1024,6 +1062,7 @@ try_hosts
 try_archives
 try_operands
 try_machines
+try_totals
 try_whole
 try_each
 try_refused

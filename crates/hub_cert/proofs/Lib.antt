@@ -32,5 +32,7 @@ pub mod StageLists
 pub mod TextBuffer
 pub mod Walks
 pub mod KeptValues
+pub mod NearInOrder
+pub mod NearRows
 pub mod Finite
 pub mod Closed

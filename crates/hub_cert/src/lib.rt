@@ -6,8 +6,8 @@
 //! - [`Certificate`]: a goal and a list of texts, its [`StageTexts`]. It rules the goal out if the list is inductive.
 //! - [`verify`]: checks certificates, and returns the set as a [`Verified`], whose type says that the set is safe.
 //! - [`Verifier`]: checks the texts of one goal after another, so that a set can be verified with one goal's texts at a time.
-//! - [`is_apart`] says whether kept values alone rule out a goal, and [`safe_by_values`] returns a set as a [`Verified`] if they rule
-//!   out each of its goals.
+//! - [`Nearness`]: which two profiles of a set have kept values over one another. It says whether kept values alone rule out a
+//!   goal, and [`safe_by_values`] returns a set as a [`Verified`] if they rule out each of its goals.
 //! - [`read_certificates`] and [`write_certificates`]: the text of certificates, which docs/CERTIFICATES.md describes.
 //! - [`Product`]: the automaton of a goal, whose state is a [`GoalStage`]. [`walker_of`], [`rule_set_of`] and [`forbidden_to`]
 //!   make its parts.
@@ -66,8 +66,9 @@ pub use goal::{Goal, Place};
 pub use matched::make_each;
 pub use product::stage::GoalStage;
 pub use product::{Product, rule_set_of, slash_class, walker_of};
-pub use set::apart::{is_apart, safe_by_values};
+pub use set::apart::safe_by_values;
 pub use set::forbidden::{Forbidden, forbidden_to};
+pub use set::nearness::Nearness;
 pub use set::{PROFILES, ProfileSet};
 pub use verifier::Verifier;
 pub use verifier::stage_texts::StageTexts;

@@ -12,6 +12,8 @@ ghost use Rattle.hub_cert.specs.Goals.{AddsGoals, breaches_by, clashes_between, 
 
 pub(crate) mod apart;
 pub(crate) mod forbidden;
+pub(crate) mod kept_values;
+pub(crate) mod nearness;
 pub(crate) mod refusals;
 
 use crate::fault::CheckFault;

@@ -13,9 +13,9 @@ use Rattle.hub_profile.specs.Parts.{Parts, has_root}
 use Rattle.hub_profile.specs.declared.rule.Rule.{Rule}
 use Rattle.hub_reach.specs.Safe as safe
 use Rattle.hub_unison.specs.Matching.{Matching, IsMatching}
-use Rattle.hub_unison.specs.Rules.{IsReadingOf, UnisonBreach, forbidden}
+use Rattle.hub_unison.specs.Rules.{IsReadingOf, KeepsRulesInUnison, UnisonBreach, forbidden}
 use Rattle.hub_unison.specs.Shared.{ShareNoArchive}
-use Rattle.hub_unison.specs.UnisonReach.{written_roots}
+use Rattle.hub_unison.specs.UnisonReach.{IsSafeInUnison, UnisonClash, written_roots}
 use Rattle.hub_unison.specs.Written.{AreWrittenAs, IsWrittenAs, Written}
 use Rattle.hub_unison.specs.laws.Cautious.{roots-read}
 use Rattle.hub_folded.specs.Fold.{Folding, IsTextual, fold_path, knows_path}
@@ -77,6 +77,50 @@ module _ (F : Folding) (N : Norm) (is : IsNormOf F N) where
         );
   }
 
+  breach-lined : (m : Matching) (R : Rule) (V : Lined) → IsWrittenAs V.written V.written.parts
+      → FoldedBreach F N m V R → UnisonBreach m (lined_written F N V) (fold_rule F R)
+  breach-lined m R V by b = (
+    norm_path N b.0,
+    norm_path N b.1,
+    subst (λ (rs : List Path). IsTrue (list_any (λ own. path_eq own R.root) rs))
+        (sym (same-roots F N V)) b.2,
+    (and_parts (is_path b.1) (is_path (norm_path N b.1)) b.3).1,
+    b.4,
+    lined-reach F N is m V b.0 b.5,
+    lined-may F N is m V by R.root b.0 R.verb b.6,
+    b.7,
+  )
+
+  clash-lined : (m n : Matching) (V W : Lined) → IsWrittenAs V.written V.written.parts
+      → FoldedClash N m n V W → UnisonClash m n (lined_written F N V) (lined_written F N W)
+  clash-lined m n V W by (inl at) =
+      inl (
+        at.0,
+        subst (λ (rs : List Path). IsTrue (list_any (λ own. path_eq own at.0) rs))
+            (sym (same-roots F N V)) at.1,
+        subst (λ (rs : List Path). IsTrue (list_any (λ own. path_eq own at.0) rs))
+            (sym (same-roots F N W)) at.2,
+        (
+          norm_path N at.3.0,
+          norm_path N at.3.1,
+          at.3.2,
+          lined-write F N is m V by at.0 at.3.0 at.3.3,
+          lined-reach F N is n W at.3.1 at.3.4,
+        ),
+      )
+  clash-lined m n V W by (inr both) =
+      inr (subst (λ (rs : List Path). list_all (λ r. list_any (λ s. path_eq s r) (lined_written F N W).parts.roots) rs ≡ true)
+      (sym (same-roots F N V))
+      (subst (λ (rs : List Path). list_all (λ r. list_any (λ s. path_eq s r) rs) V.written.parts.roots ≡ true)
+      (sym (same-roots F N W)) both))
+
+  lined-roots : (Vs : List Lined)
+      → written_roots (map (λ V. V.written) Vs) ≡ written_roots (map (lined_written F N) Vs)
+  lined-roots [] = refl
+  lined-roots (V ∷ Vs) =
+      ap (λ (rs : List Path). rs ++ written_roots (map (λ V. V.written) Vs)) (sym (same-roots F N V))
+      ∙ ap (λ (rest : List Path). (lined_written F N V).parts.roots ++ rest) (lined-roots Vs)
+
   reading : (Rs : List Rule) (V : Lined) (C : Parts) → IsWrittenAs V.written V.written.parts
       → IsReadingOf (map (fold_rule F) Rs) (lined_written F N V) C → IsFoldedReading F N Rs V C
   reading Rs V C by read = record {
@@ -86,22 +130,9 @@ module _ (F : Folding) (N : Norm) (is : IsNormOf F N) where
     write = λ m known r p h.
         read.cautious.write m known r (norm_path N p) (lined-write F N is m V by r p h);
     breaches = λ m known k R at b.
-        read.breaches m known k (fold_rule F R) (placed (fold_rule F) Rs k R at) (breach m R b);
+        read.breaches m known k (fold_rule F R) (placed (fold_rule F) Rs k R at)
+        (breach-lined m R V by b);
   }
-    where
-      breach : (m : Matching) (R : Rule) → FoldedBreach F N m V R
-          → UnisonBreach m (lined_written F N V) (fold_rule F R)
-      breach m R b = (
-        norm_path N b.0,
-        norm_path N b.1,
-        subst (λ (rs : List Path). IsTrue (list_any (λ own. path_eq own R.root) rs))
-            (sym (same-roots F N V)) b.2,
-        (and_parts (is_path b.1) (is_path (norm_path N b.1)) b.3).1,
-        b.4,
-        lined-reach F N is m V b.0 b.5,
-        lined-may F N is m V by R.root b.0 R.verb b.6,
-        b.7,
-      )
 
 members : (F : Folding) (Vs : List Lined)
     → map (folded_member F) (map member_of Vs) ≡ map (λ V. folded_member F (member_of V)) Vs
@@ -245,3 +276,39 @@ safe-at-roots F Vs roots is N known m n by also i j V W at_i at_j off clash =
         roots.apart i j V W clash.0 clash.1 at_i at_j clash.2 clash.3
         (subst (λ t. IsTrue (is_over (fold_path F clash.0) t)) folds
         (is_over-reflexive (fold_path F clash.0)))
+
+-- What is safe in Unison when it is folded.
+module _ (F : Folding) (Vs : List Lined) (by : AreSpelled Vs) where
+  abbrev AsWritten : (List Written → Type 0) → Type 0
+  AsWritten P =
+      (Ws : List Written) → AreWrittenAs Ws (map (folded_member F) (map member_of Vs)) → P Ws
+
+  lined : (P : List Written → Type 0) → AsWritten P → (N : Norm) → IsNormOf F N
+      → P (map (lined_written F N) Vs)
+  lined P all N is =
+      all (map (lined_written F N) Vs)
+      (subst (AreWrittenAs (map (lined_written F N) Vs)) (sym (members F Vs))
+      (lined-written F N is Vs by))
+
+  pub safe-together : AsWritten IsSafeInUnison → (K : Norm) → IsNormOf F K → IsSafeFolded F Vs
+  safe-together all K met = record {
+    apart = λ i j r s at_i at_j over.
+        (lined IsSafeInUnison all K met).apart i j r s (root-at i r at_i) (root-at j s at_j) over;
+    no_clash = λ N is m n known also i j V W at_i at_j other clash.
+        (lined IsSafeInUnison all N is).no_clash m n known also i j (lined_written F N V)
+        (lined_written F N W) (placed (lined_written F N) Vs i V at_i)
+        (placed (lined_written F N) Vs j W at_j) other
+        (clash-lined F N is m n V W (by i V at_i) clash);
+  }
+    where
+      root-at : (i : ℕ) (r : Path)
+          → slice_get (written_roots (map (λ V. V.written) Vs)) i ≡ Some r
+          → slice_get (written_roots (map (lined_written F K) Vs)) i ≡ Some r
+      root-at i r at = sym (ap (λ rs. slice_get rs i) (lined-roots F K met Vs)) ∙ at
+
+  pub keeps-together : (Rs : List Rule)
+      → AsWritten (λ Ws. KeepsRulesInUnison Ws (map (fold_rule F) Rs)) → KeepsRulesFolded F Vs Rs
+  keeps-together Rs all N is m known i k V R at own breach =
+      lined (λ Ws. KeepsRulesInUnison Ws (map (fold_rule F) Rs)) all N is m known i k
+      (lined_written F N V) (fold_rule F R) (placed (lined_written F N) Vs i V at)
+      (placed (fold_rule F) Rs k R own) (breach-lined F N is m R V (by i V at) breach)

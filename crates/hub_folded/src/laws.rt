@@ -7,8 +7,9 @@ ghost use Rattle.hub_profile.specs.Facts.{are_kept};
 ghost use Rattle.hub_profile.specs.declared.rule.Rule.{Rule};
 ghost use Rattle.hub_profile.specs.Parts.{Parts};
 ghost use Rattle.hub_reach.specs.Safe.{IsSafe};
-ghost use Rattle.hub_unison.specs.Rules.{AreReadForUnison, forbidden};
+ghost use Rattle.hub_unison.specs.Rules.{AreReadForUnison, KeepsRulesInUnison, forbidden};
 ghost use Rattle.hub_unison.specs.Shared.{ShareNoArchive};
+ghost use Rattle.hub_unison.specs.UnisonReach.{IsSafeInUnison};
 ghost use Rattle.hub_unison.specs.Written.{AreWrittenAs, Written};
 ghost use Rattle.hub_folded.specs.Fold.{Folding, IsTextual, knows_path, latin};
 ghost use Rattle.hub_folded.specs.Table.{unicode};
@@ -113,4 +114,16 @@ pub fn folded_lines_are_lines_of_a_profile()
     ensures roots { (F : Folding) (M : Member) → (folded_member F M).roots ≡ M.parts.roots }
     ensures within { (F : Folding) (M : Member) → IsWithinLines M.parts
         → IsWithinLines (folded_member F M) }
+{}
+
+/// If some names fold, and the folded profiles of a set are safe in Unison, whatever lines say them, so is the set up to folding. If they
+/// keep the folded rules, by none of its profiles Unison breaks a rule.
+pub fn what_is_safe_in_unison_folded_is_safe()
+    ensures clashes { (F : Folding) (Vs : List Lined) → some_fold (map member_of Vs) ≡ true
+        → AreSpelled Vs → ((Ws : List Written) → AreWrittenAs Ws (folded_set F (map member_of Vs))
+        → IsSafeInUnison Ws) → IsSafeFolded F Vs }
+    ensures kept { (F : Folding) (Vs : List Lined) (Rs : List Rule)
+        → some_fold (map member_of Vs) ≡ true → AreSpelled Vs
+        → ((Ws : List Written) → AreWrittenAs Ws (folded_set F (map member_of Vs))
+        → KeepsRulesInUnison Ws (folded_rules F (map member_of Vs) Rs)) → KeepsRulesFolded F Vs Rs }
 {}

@@ -1,9 +1,8 @@
 -- What readings that keep a folder out don't reach, and roots by their places.
-use Rattle.std.proofs.Common.{◌≡◌, ◌∙◌, ◌++◌, ◌||◌, ◌==◌, ◌⊎◌, ◌<◌, ◌+◌, not, ℕ, length, suc, Bool, false, true, List, [], ◌∷◌, Some, Option, slice_get, unwrap_or, ap, subst, sym, refl, arith, inl, inr, ⊎_elim, IsTrue}
+use Rattle.std.proofs.Common.{◌≡◌, ◌∙◌, ◌++◌, ◌||◌, ◌==◌, ◌⊎◌, ◌<◌, ◌+◌, not, ℕ, length, suc, Bool, false, true, List, [], ◌∷◌, Some, None, Option, Result, Ok, Err, IfOk, MatchOption, slice_get, unwrap_or, ap, subst, sym, refl, arith, inl, inr, ⊎_elim, IsTrue}
 use Rattle.std.proofs.lemmas.Bool.{and_from, and_parts, cases_lt, or_cases, or_right, false_from_ne_true, false≢true, true_from_ne_false}
 use Rattle.std.proofs.lemmas.Bool.Decides.{nat_tests}
 use Rattle.std.proofs.lemmas.List.{append_cancel_left}
-use Rattle.std.proofs.lemmas.Option.{slice_get_within}
 use Rattle.std.proofs.lemmas.Map.Keys.{any_passes_from_place}
 use Rattle.std.specs.List.{list_any}
 use Rattle.hub_path.specs.Path.{Path, is_over, is_place, path_eq}
@@ -12,9 +11,11 @@ use Rattle.hub_profile.specs.Parts.{IsProfile, Parts, has_root}
 use Rattle.hub_reach.specs.Reach.{reach}
 use Rattle.hub_reach.specs.laws.Between.{reach-between}
 use Rattle.hub_reach.specs.laws.General.{reach-below, reach-is_path}
+use Rattle.hub_unison.specs.ReadingOf.{cautious_of}
 use Rattle.hub_unison.specs.UnisonReach.{IsCautious, reach_by}
 use Rattle.hub_unison.specs.Written.{IsWrittenAs, Written}
-use Rattle.hub_archives.specs.KeptOut.{AllKeepOut, KeptOutBelow, KeptOutBy, keeps_out}
+use Rattle.hub_archives.specs.KeptOut.{AllKeepOut, IsHeldBy, keeps_out}
+use Rattle.hub_archives.specs.Seen.{IsHeldByAs, KeptOutBelow, KeptOutBy, KeptOutOf, keeps_out_as}
 
 -- A value over what is below a path is over the path, or at or below it.
 either : (ks : List Path) (x q : Path) → IsTrue (is_over x q) → list_any (λ s. is_over s q) ks ≡ true
@@ -41,7 +42,7 @@ all_below [] q h = h
 all_below (k ∷ ks) q h = refl
 
 -- A path under which something is reached is one, if no value is kept there.
-reached_at : (C : Parts) (x q : Path) → IsProfile C → IsTrue (keeps_out C x) → IsTrue (is_over x q)
+pub reached_at : (C : Parts) (x q : Path) → IsProfile C → IsTrue (keeps_out C x) → IsTrue (is_over x q)
     → IsTrue (reach C q) → ⊥
 reached_at C [] q facts out o h = not_kept C [] out (all_below C.paths q (reach-below C q h))
 reached_at C (n ∷ x) q facts out o h =
@@ -70,10 +71,10 @@ none_any t (x ∷ xs) none =
     ap (λ b. b || list_any t xs) (none 0 x refl) ∙ none_any t xs (λ k y e. none (suc k) y e)
 
 -- What holds of each root by its place holds of each root.
-pub at_each_root : (C : Parts) (rs : List Path) (f : Path) → rs ≡ C.roots
-    → ((m : ℕ) (r : Path) → slice_get rs m ≡ Some r → KeptOutBelow r f C) → KeptOutBy f C
-at_each_root C rs f same each r has x e =
-    true_from_ne_false (keeps_out C x)
+pub at_each_root : (b : Bool) (C : Parts) (rs : List Path) (f : Path) → rs ≡ C.roots
+    → ((m : ℕ) (r : Path) → slice_get rs m ≡ Some r → KeptOutBelow b r f C) → KeptOutBy b f C
+at_each_root b C rs f same each r has x e =
+    true_from_ne_false (keeps_out_as b C x)
     (λ out. false≢true
     (sym (none_any (λ own. path_eq own r) C.roots
     (λ k own at. false_from_ne_true (path_eq own r)
@@ -92,23 +93,31 @@ is_same : (g f : Path) → Some g ≡ Some f → g ≡ f
 is_same g f e = ap (λ (o : Option Path). unwrap_or o g) e
 
 -- One more of the folders is kept out.
-pub one_more_kept : (C : Parts) (fs : List Path) (n : ℕ) (g : Path)
-    → ((m : ℕ) (f : Path) → m < n → slice_get fs m ≡ Some f → IsProfile C × KeptOutBy f C)
-    → slice_get fs n ≡ Some g → IsProfile C → KeptOutBy g C
-    → (m : ℕ) (f : Path) → m < n + 1 → slice_get fs m ≡ Some f → IsProfile C × KeptOutBy f C
-one_more_kept C fs n g before at facts kept m f lt here =
+pub one_more_kept : (b : Bool) (C : Parts) (fs : List Path) (n : ℕ) (g : Path)
+    → ((m : ℕ) (f : Path) → m < n → slice_get fs m ≡ Some f → IsProfile C × KeptOutBy b f C)
+    → slice_get fs n ≡ Some g → IsProfile C → KeptOutBy b g C
+    → (m : ℕ) (f : Path) → m < n + 1 → slice_get fs m ≡ Some f → IsProfile C × KeptOutBy b f C
+one_more_kept b C fs n g before at facts kept m f lt here =
     ⊎_elim (λ less. before m f less here)
     (λ more. let same : m ≡ n = omega (arith, lt, more) in
-    (facts, subst (λ h. KeptOutBy h C) (is_same g f (sym at ∙ (ap (slice_get fs) (sym same) ∙ here))) kept))
+    (facts, subst (λ h. KeptOutBy b h C) (is_same g f (sym at ∙ (ap (slice_get fs) (sym same) ∙ here))) kept))
     (cases_lt m n)
 
 -- A cautious reading that keeps out folders says that Unison does.
 pub all_keep_out : (P C : Parts) (fs : List Path) → ((W : Written) → IsWrittenAs W P → IsCautious W C)
-    → ((m : ℕ) (f : Path) → m < length fs → slice_get fs m ≡ Some f → IsProfile C × KeptOutBy f C)
-    → AllKeepOut fs P
+    → KeptOutOf false fs C → AllKeepOut fs P
 all_keep_out P C fs wide each i f at W r x is has e m q by o =
-    let facts = each i f (slice_get_within fs i f at) at in
+    let facts = each i f at in
     let reading : IsCautious W C = wide W is in
     let own : IsTrue (has_root C r) = ap (list_any (λ own. path_eq own r)) (reading.roots ∙ ap (λ P. P.roots) is.parts) ∙ has in
     false_from_ne_true (reach_by m W q)
     (λ h. reached_at C x q facts.0 (facts.1 r own x e) o (reading.reach m by q h))
+
+-- What a walk over the folders finds by the cautious reading, it finds of the profile.
+pub held_as_it_stands : {E : Type 0} (P C : Parts) (fs : List Path) (r : Result (Option (ℕ × Path)) E)
+    → C ≡ cautious_of P → ((W : Written) → IsWrittenAs W P → IsCautious W C)
+    → IfOk r (λ o. MatchOption o (KeptOutOf false fs C) (λ h. IsHeldByAs false fs C h.0 h.1))
+    → IfOk r (λ o. MatchOption o (AllKeepOut fs P) (λ h. IsHeldBy fs P h.0 h.1))
+held_as_it_stands P C fs (Ok None) is wide kept = all_keep_out P C fs wide kept
+held_as_it_stands P C fs (Ok (Some h)) is wide held = subst (λ D. IsHeldByAs false fs D h.0 h.1) is held
+held_as_it_stands P C fs (Err e) is wide h = h

@@ -30,13 +30,6 @@ AllKeepOut folders P = (i : ℕ) (f : Path) → slice_get folders i ≡ Some f �
 abbrev pub keeps_out : Parts → Path → Bool
 keeps_out C x = not (reach C x) && not (list_any (λ k. is_over x k) C.paths)
 
--- The same if the folder is this root or lies in it; and at each root of the reading.
-abbrev pub KeptOutBelow : Path → Path → Parts → Type 0
-KeptOutBelow r folder C = (x : Path) → folder ≡ r ++ x → IsTrue (keeps_out C x)
-
-abbrev pub KeptOutBy : Path → Parts → Type 0
-KeptOutBy folder C = (r : Path) → IsTrue (has_root C r) → KeptOutBelow r folder C
-
 -- The folder has this path below the root, and the reading doesn't keep it out; and the same below a
 -- root of the reading.
 abbrev pub IsHeldBelow : Path → Path → Parts → Path → Type 0

@@ -1,1 +1,2 @@
+pub mod FoldedFolders
 pub mod Folders

@@ -12,11 +12,11 @@ use std::alloc::{AllocError, Global};
 /// Archives of Unison that a profile doesn't keep out.
 #[derive(Debug, Drop)]
 pub struct HeldArchives {
-    /// The number of the profile's section in the bundle, from 0 on.
+    /// The number of the profile's section in the bundle, or of the profile in its set, from 0 on.
     pub section: usize,
     /// The number of the folder that has the archives, from 0 on.
     pub folder: usize,
-    /// The path of the folder below the root that it lies in. The whole replica, if it is the root.
+    /// The path of the folder below the root that it lies in, as it stands. The whole replica, if it is the root.
     pub path: RelPath,
 }
 

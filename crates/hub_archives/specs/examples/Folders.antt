@@ -20,7 +20,7 @@ computed = tt
 abbrev whole : Parts
 whole = record (of_kept []) { paths = [] ∷ [] }
 
-abbrev literal : List ℕ → List Part
+abbrev pub literal : List ℕ → List Part
 literal cs = map (λ c. One (Lit c)) cs
 
 abbrev ignoring : Parts

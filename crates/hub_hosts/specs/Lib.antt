@@ -1,3 +1,4 @@
+pub mod Folding
 pub mod Profiles
 pub mod Remotes
 pub mod Table

@@ -37,6 +37,7 @@
 #![tactic(auto)]
 
 mod fault;
+mod folding;
 mod host;
 pub mod laws;
 mod profile;

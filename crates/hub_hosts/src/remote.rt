@@ -73,7 +73,7 @@ fn without_port(name: &[u8]) -> &[u8]
 }
 
 /// Returns whether a root is one here: a path that begins with one slash.
-fn is_local(root: &[u8]) -> bool
+pub(crate) fn is_local(root: &[u8]) -> bool
     ensures { result ≡ remotes.is_local root.now }
 {
     root.starts_with(b"/") && !root.starts_with(b"//")
@@ -182,7 +182,7 @@ impl Hosts {
 }
 
 /// Returns whether a row is for this machine itself.
-fn is_own(row: &Host<Items<u8>>) -> bool
+pub(crate) fn is_own(row: &Host<Items<u8>>) -> bool
     ensures { result ≡ remotes.is_own row.now }
 {
     !row.is_for_home && row.path.is_empty()

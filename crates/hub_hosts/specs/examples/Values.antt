@@ -1,6 +1,7 @@
 -- Worked values. Those of texts are what a script in Perl wrote that did the same, but for blanks,
 -- and where a comment says so.
 use Rattle.std.specs.Prelude.{◌≡◌, ℕ, false, true, List, [], ◌∷◌, None, Some, Ok, Err, codes, refl}
+use Rattle.hub_hosts.specs.Folding.{folds_text, profile_for}
 use Rattle.hub_hosts.specs.Profiles.{text_for}
 use Rattle.hub_hosts.specs.Remotes.{folds_names, has_machine, has_own_row, is_here, is_of, path_of}
 use Rattle.hub_hosts.specs.Table.{Row, rows_of}
@@ -245,3 +246,24 @@ a_machine_with_a_user_and_a_port = refl
 
 a_machine_of_another_name : is_of (codes "buildx") (row (codes "build") (codes "/hosts/build")) ≡ false
 a_machine_of_another_name = refl
+
+a_profile_of_a_host_that_folds : profile_for folding_rows None (codes "root = /a\nroot = ssh://bob@pc//b")
+    ≡ codes "root = /a\nroot = /pc/b\nignorecase = true\n"
+a_profile_of_a_host_that_folds = refl
+
+a_profile_of_that_host : profile_for folding_rows (Some (codes "bob@pc")) (codes "root = /b\npath = c\n")
+    ≡ codes "root = /pc/b\npath = c\n\nignorecase = true\n"
+a_profile_of_that_host = refl
+
+a_profile_of_other_hosts : profile_for folding_rows None (codes "root = /a\nroot = ssh://hub//b\n")
+    ≡ codes "root = /a\nroot = ssh://hub//b\n"
+a_profile_of_other_hosts = refl
+
+roots_here_do_not_fold : folds_text folding_rows None (codes "root = /a\nroot = /b\n") ≡ false
+roots_here_do_not_fold = refl
+
+roots_here_fold : folds_text (folding (row (codes "mac") []) ∷ []) None (codes "path = c\nroot = /a\n") ≡ true
+roots_here_fold = refl
+
+a_path_is_no_root : folds_text (folding (row (codes "mac") []) ∷ []) None (codes "path = /a\nforce = /a\n") ≡ false
+a_path_is_no_root = refl

@@ -1,0 +1,4 @@
+pub mod Below
+pub mod MemberLists
+pub mod SameContents
+pub mod Said

@@ -1,0 +1,5 @@
+pub mod Case
+pub mod Caseless
+pub mod Members
+pub mod Respelled
+pub mod examples

@@ -182,7 +182,7 @@ fn say_no(out: &mut String, source: &Source<'_>, exchange: Exchange<'_>) -> Said
         let listing = Listing::asked_for(words);
         let clash = first_clash(words, exchange.told);
         if clash.is_some() {
-            say_wider(out, exchange.answers.check)?;
+            say_wider(out, source, exchange.answers.check)?;
         }
         say_more(out, source, exchange.input, exchange.told, clash, listing)?;
         say_plain_answer(out, source, clash, exchange.answers.check)?;

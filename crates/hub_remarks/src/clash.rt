@@ -57,12 +57,21 @@ pub fn what_to_ask(
     let Some(clash) = first_clash(words, told) else {
         return Ok(asked);
     };
+    if are_folded(files) {
+        return Ok(asked);
+    }
     asked.check = is_for_unison(words) && input.is_whole;
     if input.is_whole && !is_mend(words) {
         let source = Source::read(alloc, input.bytes, input.is_whole, files)?;
         asked.mend = named_bundle(&source, clash)?;
     }
     Ok(asked)
+}
+
+/// Returns whether the lines of the sections are folded ones. A plain answer is about lines as they stand, and a line that makes folded
+/// profiles safe may not make the profiles so.
+fn are_folded(files: &[SourceFile<'_>]) -> bool {
+    files.iter().any(|file| file.path.is_none())
 }
 
 /// The overlap or the breach that an answer begins with, if it begins with one.
@@ -159,12 +168,12 @@ fn push_line(bundle: &mut Vec<u8>, line: SourceLine<'_>) -> Said {
 }
 
 /// Says that an overlap or a breach may come of the wider reading alone, and to compare the answer by hubsync's own reading, unless that
-/// is a fault.
-pub(crate) fn say_wider(out: &mut String, answer: Option<&Reply>) -> Said {
+/// is a fault, or names fold.
+pub(crate) fn say_wider(out: &mut String, source: &Source<'_>, answer: Option<&Reply>) -> Said {
     out.push_str("hubsync: more counts with --unison than may happen")?;
     let has_none = match answer {
         Some(plain) => has_no_plain_answer(&plain.told),
-        None => false,
+        None => source.is_folded(),
     };
     out.push_str(if has_none {
         "\n"

@@ -5,16 +5,19 @@ use hub_source::{Said, Source, is_letter};
 /// How many profiles are named at most.
 const LISTED: usize = 5;
 
-/// Says of which profiles a root is on Windows by its text, or is marked as one of a machine that takes such names for one.
+/// Says of which profiles a root is on Windows by its text, unless the answer is about folded names.
 pub(crate) fn say_folded(out: &mut String, source: &Source<'_>) -> Said {
+    if source.is_folded() {
+        return Ok(());
+    }
     let mut count = 0usize;
     for heading in source.profiles()? {
-        if let Some(place) = folding_place(source, heading.section) {
+        if is_on_windows(source, heading.section) {
             if count < LISTED {
                 let name = heading.profile().unwrap_or("");
                 writeln!(
                     out,
-                    "hubsync: note: {name}: Unison {place} takes names that differ in case for one: this answer doesn't know that"
+                    "hubsync: note: {name}: Unison on Windows takes names that differ in case for one: this answer doesn't know that"
                 )?;
             }
             count = count.saturating_add(1);
@@ -26,22 +29,17 @@ pub(crate) fn say_folded(out: &mut String, source: &Source<'_>) -> Said {
     }
 }
 
-/// Where Unison takes such names for one, if it does at a root of a profile.
-fn folding_place(source: &Source<'_>, section: usize) -> Option<&'static str> {
+/// Returns whether a root of a profile is on Windows by its text.
+fn is_on_windows(source: &Source<'_>, section: usize) -> bool {
     for line in source.section_lines(section) {
         if let Some(root) = line.value_of("root") {
             let written = source.root_written(section, root).unwrap_or(root);
             if is_of_windows(root) || is_of_windows(written) {
-                return Some("on Windows");
+                return true;
             }
         }
     }
-    let roots = source.written_roots(section)?;
-    if roots.iter().any(|root| root.folds) {
-        Some("on the host that is marked for it")
-    } else {
-        None
-    }
+    false
 }
 
 /// Returns whether a root has the letter of a drive as a name, as `C:` and `C$`, or lies below `cygdrive`.

@@ -1,6 +1,7 @@
 //! Remarks on hubsync's answers: the line of the input that an answer is about, and what to do.
 //!
-//! [`remark`] says, for the first bytes of an input and what was answered to it, what belongs on standard error.
+//! [`remark`] says, for the first bytes of an input and what was answered to it, what belongs on standard error. [`remark_on_lines`] says
+//! it of lines in whose place others are answered about.
 //!
 //! ```rust
 //! let remarks = remark(rt.alloc(), words, files, input, told, answers)?;
@@ -54,3 +55,4 @@ mod words;
 pub use answer::{Remarks, remark};
 pub use clash::{Answers, Questions, Reply, what_to_ask};
 pub use input::FirstBytes;
+pub use unison::remark_on_lines;

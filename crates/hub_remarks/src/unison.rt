@@ -9,14 +9,21 @@ use hub_glob::PATTERN_CHARACTERS;
 use hub_preferences::{Finding, Outcome, findings};
 use hub_profile::Fault;
 use hub_report::{FaultyInput, Refusal, Told};
-use hub_source::{Said, Source, shown};
-use std::alloc::AllocError;
+use hub_source::{Said, Source, SourceFile, shown};
+use std::alloc::{AllocError, Global};
 use std::collections::BTreeSet;
 
 /// What an answer for Unison assumes.
 const ASSUMED: &str = "\
 hubsync: for Unison 2.52 with -batch and no preference on its command line, where only these runs write,
 hubsync: no symbolic link is followed, each folder and host has one name, names differ as their bytes do,
+hubsync: and the folders above path lines exist
+";
+
+/// The same where names fold.
+const ASSUMED_OF_FOLDED: &str = "\
+hubsync: for Unison 2.52 with -batch and no preference on its command line, where only these runs write,
+hubsync: no symbolic link is followed, each folder and host has one name, no name folds to nothing or to dots,
 hubsync: and the folders above path lines exist
 ";
 
@@ -66,6 +73,15 @@ pub(crate) fn has_word(words: &[String], asked: &str) -> bool {
     words.iter().any(|word| word.as_str() == asked)
 }
 
+/// What an answer for Unison assumes over these lines.
+fn assumed(source: &Source<'_>) -> &'static str {
+    if source.is_folded() {
+        ASSUMED_OF_FOLDED
+    } else {
+        ASSUMED
+    }
+}
+
 /// Says what a yes for Unison assumes, and which lines don't count.
 pub(crate) fn say_yes(
     out: &mut String,
@@ -73,9 +89,24 @@ pub(crate) fn say_yes(
     input: &[u8],
     listing: Listing,
 ) -> Said {
-    out.push_str(ASSUMED)?;
+    out.push_str(assumed(source))?;
     say_elsewhere(out, source)?;
     say_uncounted(out, source, input, listing)
+}
+
+/// What is said of the lines of a bundle for Unison in whose place another one is answered about: where Unison may write by them, and
+/// which of them don't count. The bundle is made of these files. It takes the time of reading the bundle. Out of memory is the only error.
+pub fn remark_on_lines(
+    alloc: Global,
+    words: &[String],
+    files: &[SourceFile<'_>],
+    bundle: &[u8],
+) -> Result<String, AllocError> {
+    let source = Source::read(alloc, bundle, true, files)?;
+    let mut text = String::new(alloc);
+    say_elsewhere(&mut text, &source)?;
+    say_uncounted(&mut text, &source, bundle, Listing::asked_for(words))?;
+    Ok(text)
 }
 
 /// Says which lines don't count.

@@ -16,15 +16,13 @@ pub struct WrittenRoot<'a> {
     pub path: &'a [u8],
     /// The value of the profile's line for this root, by which Unison knows it. If it is empty, that is the text in the section.
     pub written: &'a [u8],
-    /// Whether the root's machine takes names that differ in case alone for one name, as far as is known.
-    pub folds: bool,
 }
 
 /// What a section of an input was made of.
 #[derive(Drop)]
 pub struct SourceFile<'a> {
-    /// The path of the file.
-    pub path: &'a str,
+    /// The path of the file, or none if the section has other lines than it: those that its lines fold to.
+    pub path: Option<&'a str>,
     /// Where its lines came from, if not all of them are the file's own.
     pub origins: Vec<LineOrigin<'a>>,
     /// Its roots. If there are none, each root is written as the section has it.
@@ -42,6 +40,6 @@ pub(crate) fn origin_of<'a>(
     };
     match number.checked_sub(1).and_then(|at| file.origins.get(at)) {
         Some(origin) => (Some(origin.path), origin.number),
-        None => (Some(file.path), number),
+        None => (file.path, number),
     }
 }

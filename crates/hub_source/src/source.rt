@@ -142,6 +142,7 @@ pub struct Source<'a> {
     /// The roots of the sections that were made of files.
     roots: Vec<&'a [WrittenRoot<'a>]>,
     is_whole: bool,
+    is_folded: bool,
 }
 
 impl<'a> Source<'a> {
@@ -159,6 +160,7 @@ impl<'a> Source<'a> {
             headings: Vec::new(alloc),
             roots: Vec::new(alloc),
             is_whole,
+            is_folded: files.iter().any(|file| file.path.is_none()),
         };
         for file in files {
             source.roots.push(file.roots)?;
@@ -210,7 +212,14 @@ impl<'a> Source<'a> {
         self.is_whole
     }
 
-    /// Returns whether its sections were made of files.
+    /// Returns whether its sections have folded lines, in the place of those of files.
+    pub fn is_folded(&self) -> bool
+        ensures { result ≡ self.now.is_folded }
+    {
+        self.is_folded
+    }
+
+    /// Returns whether its sections have the lines of files.
     pub fn has_files(&self) -> bool
         ensures { result ≡ list_any places.has_file self.now.lines.items }
     {

@@ -1,16 +1,23 @@
 -- What is answered over files.
 use Rattle.std.specs.Prelude.{◌≡◌, ◌⊎◌, ◌++◌, ℕ, Bool, false, not, true, ◌&&◌, ◌||◌, List, [], ◌∷◌, Option, Some, None, Ok, Err, IfSome, is_some, codes, map, string_bytes}
+use Rattle.std.specs.Fmt.{decimal}
 use Rattle.std.specs.List.{All, Contains, find, list_all, list_any, slice_get}
 use Rattle.hub_archives.specs.Found.{AreKeptOut, IsHeld}
 use Rattle.hub_archives.specs.declared.found.HeldArchives.{HeldArchives}
 use Rattle.hub_path.specs.Path.{Path}
-use Rattle.hub_cli.specs.Words.{Names, Request}
+use Rattle.hub_cli.specs.Words.{Names, Request, mended}
 use Rattle.hub_bundle.specs.Files.{bundle_of, first_faulty, part_fault, part_machine}
 use Rattle.hub_bundle.specs.declared.part.Kind.{Kind}
 use Rattle.hub_bundle.specs.declared.part.Kind.TheVariants.{Profile, Rules, State, Certificates}
 use Rattle.hub_bundle.specs.declared.part.Part.{Part}
 use Rattle.hub_bundle.specs.declared.part.PartFault.{PartFault}
 use Rattle.hub_bundle.specs.declared.part.PartFault.TheVariants.{BadName, HasHeading}
+use Rattle.hub_respelled.specs.Caseless.{caseless_bundle, says_folding}
+use Rattle.hub_respelled.specs.Respelled.{IsRespelled, IsUnrespelled}
+use Rattle.hub_respelled.specs.declared.fault.RespellFault.{RespellFault}
+use Rattle.hub_respelled.specs.declared.fault.RespellFault.TheVariants as respell
+use Rattle.hub_respelled.specs.declared.folded.Spelling.{Spelling}
+use Rattle.hub_respelled.specs.declared.folded.Spelling.TheVariants as spelling
 use Rattle.hub_serve.specs.Reads.{Reads as InputReads}
 use Rattle.hub_serve.specs.Serves.{AnswersNothing, ServesInFull, WritesText}
 use Rattle.hub_folder.specs.Machines.{machine_of, second_machine}
@@ -19,6 +26,7 @@ use Rattle.hub_folder.specs.Reading.{Folders, HasBytes, HasFault, HasFolder, Lis
 use Rattle.hub_folder.specs.declared.fault.Untaken.{Untaken}
 use Rattle.hub_folder.specs.declared.fault.Untaken.TheVariants as untaken
 use Rattle.hub_folder.specs.declared.reader.ReadFault.{ReadFault}
+use Rattle.hub_hosts.specs.Folding.{profile_for}
 use Rattle.hub_hosts.specs.Profiles.{text_for}
 use Rattle.hub_hosts.specs.Remotes.{has_machine, has_own_row, is_here, is_of}
 use Rattle.hub_hosts.specs.Table.{Row, rows_of}
@@ -135,16 +143,77 @@ reason_at parts n = reason_in (slice_get parts n)
 abbrev pub WritesHeld : List Path → List Part → Option (List ℕ) → Option (List ℕ) → Bool → ℕ
     → Type 0
 WritesHeld folders parts old new failed status =
-    (held : HeldArchives) × IsHeld folders (bundle_of parts) held
+    (held : HeldArchives) × IsHeld folders (caseless_bundle (bundle_of parts)) held
     × WritesFault (file_at parts held.section) (codes "ArchivesInRoot") old new failed status
+
+-- What is wrong where names fold: with the rule of this number, from 0 on, or with what is folded.
+abbrev pub respell_word : RespellFault → List ℕ
+respell_word (respell.UnknownRule i) = codes "UnknownRule " ++ decimal i
+respell_word respell.Unwritten = codes "NotReadBack"
+respell_word respell.OutOfMemory = []
+
+abbrev pub WritesUnrespelled : List ℕ → Option (List ℕ) → Option (List ℕ) → Bool → ℕ → Type 0
+WritesUnrespelled bundle old new failed status =
+    (fault : RespellFault) × IsUnrespelled bundle fault × (says_folding bundle ≡ true)
+    × WritesFault (codes "rules") (respell_word fault) old new failed status
+
+-- Lines are asked for that make a set safe. A line that does so for folded profiles may not do so for
+-- the profiles: none are given.
+abbrev pub is_mending : Option Request → Bool
+is_mending (Some (mended reading as_bundle)) = true
+is_mending _ = false
+
+abbrev pub WritesNoLines : Option (List ℕ) → Option (List ℕ) → Bool → ℕ → Type 0
+WritesNoLines old new failed status =
+    WritesFault (codes "profiles") (codes "NamesFold") old new failed status
+
+-- The answer is given over the text of folded profiles and rules, unless lines are asked for. Or it was
+-- written that memory is out.
+abbrev pub ServesText : Option Request → List ℕ → Option (List ℕ) → Option (List ℕ) → Bool → ℕ
+    → Type 0
+ServesText asked text old new failed status =
+    ((is_mending asked ≡ false) × ServesBundle asked text old new failed status)
+    ⊎ (((is_mending asked ≡ true) × WritesNoLines old new failed status)
+    ⊎ WritesText old new memory_line 2 failed status)
+
+-- The answer is given over what stands in the place of a bundle. Or it was written that a profile by
+-- which names fold doesn't keep out Unison's archives.
+abbrev pub ServesAs : Option Request → List Part → List ℕ → Spelling → Option (List ℕ)
+    → Option (List ℕ) → Bool → ℕ → Type 0
+ServesAs asked parts bundle spelling.Same old new failed status =
+    ServesBundle asked bundle old new failed status
+ServesAs asked parts bundle (spelling.Folded text) old new failed status =
+    ServesText asked text.items old new failed status
+ServesAs asked parts bundle (spelling.Held held) old new failed status =
+    WritesFault (file_at parts held.section) (codes "ArchivesInRoot") old new failed status
+ServesAs asked parts bundle spelling.Unread old new failed status =
+    ServesBundle asked bundle old new failed status
+
+-- It is so of a bundle whose profiles are read for Unison. Or it was written why nothing stands in its
+-- place, or that memory is out.
+abbrev pub ServesFolded : Option Request → List Path → List Part → List ℕ → Option (List ℕ)
+    → Option (List ℕ) → Bool → ℕ → Type 0
+ServesFolded asked folders parts bundle old new failed status =
+    ((r : Spelling) × IsRespelled folders bundle r
+    × ServesAs asked parts bundle r old new failed status)
+    ⊎ (WritesUnrespelled bundle old new failed status
+    ⊎ WritesText old new memory_line 2 failed status)
+
+abbrev pub ServesSpelled : Option Request → Bool → List Path → List Part → List ℕ
+    → Option (List ℕ) → Option (List ℕ) → Bool → ℕ → Type 0
+ServesSpelled asked false folders parts bundle old new failed status =
+    ServesBundle asked bundle old new failed status
+ServesSpelled asked true folders parts bundle old new failed status =
+    ServesFolded asked folders parts bundle old new failed status
 
 -- If each file can be a section, the answer is given over the bundle that they make, whose profiles
 -- keep out Unison's archives in these folders; or one doesn't. Else the fault of the first that can't
 -- be a section was written. In each case it may be that memory is out instead.
-pub record ServesParts (asked : Option Request) (folders : List Path) (parts : List Part)
-    (old new : Option (List ℕ)) (failed : Bool) (status : ℕ) : Type 0 where
+pub record ServesParts (asked : Option Request) (is_for_unison : Bool) (folders : List Path)
+    (parts : List Part) (old new : Option (List ℕ)) (failed : Bool) (status : ℕ) : Type 0 where
   pub bundled : first_faulty parts ≡ None
-      → (AreKeptOut folders (bundle_of parts) × ServesBundle asked (bundle_of parts) old new failed status)
+      → (AreKeptOut folders (caseless_bundle (bundle_of parts))
+      × ServesSpelled asked is_for_unison folders parts (bundle_of parts) old new failed status)
       ⊎ (WritesHeld folders parts old new failed status
       ⊎ WritesText old new memory_line 2 failed status)
   pub refused : (n : ℕ) → first_faulty parts ≡ Some n
@@ -260,13 +329,18 @@ abbrev pub host_text : Option (List Row) → Option (List ℕ) → List ℕ → 
 host_text None machine text = text
 host_text (Some rows) machine text = text_for rows machine text
 
+-- The same of a profile. If names fold at a root of it, a line of it says so.
+abbrev pub profile_text : Option (List Row) → Option (List ℕ) → List ℕ → List ℕ
+profile_text None machine text = text
+profile_text (Some rows) machine text = profile_for rows machine text
+
 abbrev pub for_hosts : Option (List Row) → Owned → File
-for_hosts table p = (p.file.0, host_text table p.machine p.file.1)
+for_hosts table p = (p.file.0, profile_text table p.machine p.file.1)
 
 -- The same of the section of an option: in a state and in certificates no root is replaced.
 abbrev pub for_section : Option (List Row) → Kind → File → File
 for_section table Profile file = for_hosts table (owned None file)
-for_section table Rules file = for_hosts table (owned None file)
+for_section table Rules file = (file.0, host_text table None file.1)
 for_section table State file = file
 for_section table Certificates file = file
 
@@ -337,7 +411,7 @@ ServesFiles disk asked sources old new failed status =
     ((parts : List Part) × (folders : List Path)
     × AreSections disk sources (map label_of parts) (map bytes_of parts)
     × AreFolders disk sources (map label_of parts) folders
-    × ServesParts asked folders parts old new failed status)
+    × ServesParts asked sources.is_for_unison folders parts old new failed status)
     ⊎ (WritesFileFault disk sources.names old new failed status
     ⊎ WritesText old new memory_line 2 failed status)
 

@@ -1,13 +1,13 @@
 -- What is written to a device of which the first bytes are kept: of it before and after, and of the
 -- function that tells its bytes.
-use Rattle.std.specs.Prelude.{◌≡◌, ℕ, List, Option, String, map, string_bytes}
+use Rattle.std.specs.Prelude.{◌≡◌, ℕ, Bool, List, Option, String, map, string_bytes}
 use Rattle.hub_path.specs.Path.{Path}
 use Rattle.hub_bundle.specs.declared.part.Part.{Part}
 use Rattle.hub_cli.specs.Words.{asked_of}
 use Rattle.hub_folder.specs.declared.fault.Untaken.{Untaken}
 use Rattle.hub_serve.specs.Serves.{AnswersNothing, ServesOver, WritesText}
 use Rattle.hub_text.specs.declared.watched.Watched.{Watched}
-use Rattle.hubsync.specs.Bundled.{Disk, ServesBundle, ServesFiles, ServesParts, Sources, WritesFault, WritesUntaken}
+use Rattle.hubsync.specs.Bundled.{Disk, ServesBundle, ServesFiles, ServesFolded, ServesParts, ServesSpelled, ServesText, Sources, WritesFault, WritesUntaken}
 use Rattle.hubsync.specs.declared.captured.Captured.{Captured}
 
 -- Nothing is written.
@@ -53,9 +53,31 @@ ServesBundleTo output output_after contents words bundle status =
 -- The answer to words is given over the sections that these parts are, which keep out the archives in
 -- these folders.
 abbrev pub ServesPartsTo : {E Z : Type 0} → Watched (Captured E) → Watched (Captured E)
-    → (E → Option (List ℕ)) → List (String Z) → List Path → List Part → ℕ → Type 0
-ServesPartsTo output output_after contents words folders parts status =
-    ServesParts (asked_of (map string_bytes words)) folders parts (contents output.device.device)
+    → (E → Option (List ℕ)) → List (String Z) → Bool → List Path → List Part → ℕ → Type 0
+ServesPartsTo output output_after contents words is_for_unison folders parts status =
+    ServesParts (asked_of (map string_bytes words)) is_for_unison folders parts
+    (contents output.device.device) (contents output_after.device.device) output_after.failed status
+
+-- The answer to words is given over what stands in the place of the bundle of these parts, which is
+-- read for Unison or not.
+abbrev pub ServesSpelledTo : {E Z : Type 0} → Watched (Captured E) → Watched (Captured E)
+    → (E → Option (List ℕ)) → List (String Z) → Bool → List Path → List Part → List ℕ → ℕ → Type 0
+ServesSpelledTo output output_after contents words is_for_unison folders parts bundle status =
+    ServesSpelled (asked_of (map string_bytes words)) is_for_unison folders parts bundle
+    (contents output.device.device) (contents output_after.device.device) output_after.failed status
+
+-- The same of profiles that are read for Unison.
+abbrev pub ServesFoldedTo : {E Z : Type 0} → Watched (Captured E) → Watched (Captured E)
+    → (E → Option (List ℕ)) → List (String Z) → List Path → List Part → List ℕ → ℕ → Type 0
+ServesFoldedTo output output_after contents words folders parts bundle status =
+    ServesFolded (asked_of (map string_bytes words)) folders parts bundle
+    (contents output.device.device) (contents output_after.device.device) output_after.failed status
+
+-- The same over the text of folded profiles and rules.
+abbrev pub ServesTextTo : {E Z : Type 0} → Watched (Captured E) → Watched (Captured E)
+    → (E → Option (List ℕ)) → List (String Z) → List ℕ → ℕ → Type 0
+ServesTextTo output output_after contents words text status =
+    ServesText (asked_of (map string_bytes words)) text (contents output.device.device)
     (contents output_after.device.device) output_after.failed status
 
 -- The answer to words is given over files.

@@ -1,15 +1,19 @@
 //! Answers over a bundle that is made of files.
-ghost use Rattle.std.specs.Prelude.{◌≡◌, IfOk, codes, false};
+ghost use Rattle.std.specs.Prelude.{◌≡◌, IfOk, MatchOption, codes, false};
+ghost use Rattle.hub_archives.specs.Found.{AreKeptOut, IsHeld};
 ghost use Rattle.hub_bundle.specs.Files.{bundle_of};
+ghost use Rattle.hub_respelled.specs.Caseless.{caseless_bundle};
 ghost use Rattle.hubsync.specs.Written.{ReportsFault, ServesBundleTo, ServesPartsTo, WritesTextTo};
 ghost use Rattle.hubsync.specs.Bundled as bundled;
 ghost use Rattle.hubsync.specs.Bundled.{file_fault_line, file_at, memory_line, reason_at, reason_for};
 
 use crate::captured::Captured;
 use crate::served::{Answered, Capture, serve_with_remarks};
+use crate::spelled::serve_spelled;
 use hub_archives::{HeldArchives, find_archives};
 use hub_bundle::{FilesFault, Part, PartFault, bundle_of, part_fault};
 use hub_path::Root;
+use hub_respelled::caseless;
 use hub_source::SourceFile;
 use hub_text::Watched;
 use std::alloc::{AllocError, Global};
@@ -24,6 +28,7 @@ use std::time::Clock;
 pub fn serve_parts<T: AllocGlobal + Clock + Eprint + Threads + Wait + Sync, W: Write>(
     rt: &T,
     words: &[String],
+    is_for_unison: bool,
     files: &[SourceFile<'_>],
     folders: &[Root],
     parts: &[Part<'_>],
@@ -31,13 +36,26 @@ pub fn serve_parts<T: AllocGlobal + Clock + Eprint + Threads + Wait + Sync, W: W
     capture: &Capture,
 ) -> Answered
     requires { output.old.failed ≡ false }
-    ensures { ServesPartsTo output.old output.new W.contents words.now folders.now parts.now
-        result.status }
+    ensures { ServesPartsTo output.old output.new W.contents words.now is_for_unison folders.now
+        parts.now result.status }
 {
     let alloc = rt.alloc();
     match bundle_of(alloc, parts) {
-        Ok(bundle) => match find_archives(alloc, bundle.as_slice(), folders) {
-            Ok(None) => serve_bundle(rt, words, files, bundle.as_slice(), output, capture),
+        Ok(bundle) => match held_archives(alloc, bundle.as_slice(), folders) {
+            Ok(None) => {
+                let bundle = bundle.as_slice();
+                serve_spelled(
+                    rt,
+                    words,
+                    is_for_unison,
+                    files,
+                    folders,
+                    parts,
+                    bundle,
+                    output,
+                    capture,
+                )
+            }
             Ok(Some(held)) => Answered::plain(write_held(rt, folders, parts, &held, output)),
             Err(AllocError) => Answered::plain(write_memory(output)),
         },
@@ -46,8 +64,21 @@ pub fn serve_parts<T: AllocGlobal + Clock + Eprint + Threads + Wait + Sync, W: W
     }
 }
 
+/// Finds the first profile of a bundle that doesn't keep out the archives in one of these folders, whether names fold by it or not.
+fn held_archives(
+    alloc: Global,
+    bundle: &[u8],
+    folders: &[Root],
+) -> Result<Option<HeldArchives>, AllocError>
+    ensures { IfOk result (λ o. MatchOption o (AreKeptOut folders.now (caseless_bundle bundle.now))
+        (IsHeld folders.now (caseless_bundle bundle.now))) }
+{
+    let caseless = caseless(alloc, bundle)?;
+    find_archives(alloc, caseless.as_slice(), folders)
+}
+
 /// Does what `serve_with_remarks` does over a bundle, that of these files.
-fn serve_bundle<T: AllocGlobal + Clock + Eprint + Threads + Wait + Sync, W: Write>(
+pub fn serve_bundle<T: AllocGlobal + Clock + Eprint + Threads + Wait + Sync, W: Write>(
     rt: &T,
     words: &[String],
     files: &[SourceFile<'_>],
@@ -63,7 +94,7 @@ fn serve_bundle<T: AllocGlobal + Clock + Eprint + Threads + Wait + Sync, W: Writ
 }
 
 /// Says that a profile doesn't keep out Unison's archives in one of these folders.
-fn write_held<T: AllocGlobal + Eprint, W: Write>(
+pub fn write_held<T: AllocGlobal + Eprint, W: Write>(
     rt: &T,
     folders: &[Root],
     parts: &[Part<'_>],

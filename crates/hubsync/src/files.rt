@@ -12,7 +12,7 @@ ghost use Rattle.hubsync.specs.Written.{ServesFilesTo, WritesNothing};
 use crate::bundled::{serve_parts, write_memory};
 use crate::captured::Captured;
 use crate::folders::folders_of;
-use crate::hosts::{for_hosts, unknown_host};
+use crate::hosts::{profile_for_hosts, rules_for_hosts, unknown_host};
 use crate::left_out::say_left_out;
 use crate::served::{Answered, Capture};
 use crate::sources::{HeldRoot, roots_in, source_files, written_roots};
@@ -170,6 +170,7 @@ fn serve_named<
     let answered = serve_parts(
         rt,
         words,
+        options.is_for_unison,
         files.as_slice(),
         folders.as_slice(),
         parts.as_slice(),
@@ -301,7 +302,7 @@ fn with_profiles<'a>(
     Ok(held)
 }
 
-/// A profile that was told, with paths in place of the roots of hosts.
+/// A profile that was told, with paths in place of the roots of hosts, and with a line that says so if names fold at a root.
 fn held_profile<'a>(
     alloc: Global,
     named: NamedProfile<'a>,
@@ -323,7 +324,7 @@ fn held_profile<'a>(
         kind: Kind::Profile,
         file: path,
         machine,
-        bytes: for_hosts(alloc, text, machine, hosts)?,
+        bytes: profile_for_hosts(alloc, text, machine, hosts)?,
         origins: Some(origins),
         left_out,
         roots,
@@ -367,7 +368,8 @@ fn held_other<'a>(
         roots,
     } = other;
     let bytes = match kind {
-        Kind::Profile | Kind::Rules => for_hosts(alloc, bytes, None, hosts)?,
+        Kind::Profile => profile_for_hosts(alloc, bytes, None, hosts)?,
+        Kind::Rules => rules_for_hosts(alloc, bytes, hosts)?,
         Kind::State | Kind::Certificates => bytes,
     };
     Ok(Held {

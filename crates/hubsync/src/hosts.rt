@@ -1,10 +1,10 @@
 //! A table of hosts, and the machines that operands name.
-ghost use Rattle.std.specs.Prelude.{◌≡◌, IfOk};
+ghost use Rattle.std.specs.Prelude.{◌≡◌, IfOk, None};
 ghost use Rattle.hub_folder.specs.Machines.{machine_in};
 ghost use Rattle.std.specs.List.{list_all};
 ghost use Rattle.hub_folder.specs.Told.{texts_in};
 ghost use Rattle.hubsync.specs.Bundled as bundled;
-ghost use Rattle.hubsync.specs.Bundled.{host_text};
+ghost use Rattle.hubsync.specs.Bundled.{host_text, profile_text};
 ghost use Rattle.hubsync.specs.Named.{table_in, text_in};
 
 use hub_folder::machine_of;
@@ -97,18 +97,32 @@ fn names_host(operand: &str, row: &Host<Items<u8>>) -> bool
     }
 }
 
-/// A text with paths in place of the roots of hosts. It may be that of a profile of a machine.
-pub fn for_hosts(
+/// The text of a profile, maybe of a machine, with paths in place of the roots of hosts. If names fold at a root of it, a line says so.
+pub fn profile_for_hosts(
     alloc: Global,
     text: Vec<u8>,
     machine: Option<&str>,
     hosts: Option<&Hosts>,
 ) -> Result<Vec<u8>, AllocError>
     ensures { IfOk result (λ v. v.items
-        ≡ host_text (table_in hosts.entry) (machine_in machine.entry) text.items) }
+        ≡ profile_text (table_in hosts.entry) (machine_in machine.entry) text.items) }
 {
     match hosts {
-        Some(hosts) => hosts.text_for(alloc, machine, text.as_slice()),
+        Some(hosts) => hosts.profile_for(alloc, machine, text.as_slice()),
+        None => Ok(text),
+    }
+}
+
+/// The text of rules with paths in place of the roots of hosts.
+pub fn rules_for_hosts(
+    alloc: Global,
+    text: Vec<u8>,
+    hosts: Option<&Hosts>,
+) -> Result<Vec<u8>, AllocError>
+    ensures { IfOk result (λ v. v.items ≡ host_text (table_in hosts.entry) None text.items) }
+{
+    match hosts {
+        Some(hosts) => hosts.text_for(alloc, None, text.as_slice()),
         None => Ok(text),
     }
 }

@@ -17,6 +17,7 @@ mod left_out;
 mod reader;
 mod served;
 mod sources;
+mod spelled;
 mod terminal;
 mod untaken;
 

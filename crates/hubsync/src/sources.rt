@@ -14,8 +14,6 @@ pub struct HeldRoot {
     path: Vec<u8>,
     /// The value of the profile's line for the root.
     written: Vec<u8>,
-    /// Whether that machine takes names that differ in case alone for one name, by the table of hosts.
-    folds: bool,
 }
 
 impl HeldRoot {
@@ -56,7 +54,6 @@ fn push_root(
         roots.push(HeldRoot {
             path,
             written: Vec::from_slice(alloc, root)?,
-            folds: hosts.folds_names(machine, root),
         })?;
     }
     Ok(())
@@ -84,7 +81,6 @@ fn written_in<'a>(
         written.push(WrittenRoot {
             path: root.path.as_slice(),
             written: root.written.as_slice(),
-            folds: root.folds,
         })?;
     }
     Ok(written)
@@ -98,7 +94,7 @@ pub fn source_files<'a, 'h: 'a>(
 ) -> Result<Vec<SourceFile<'a>>, AllocError> {
     let mut files = Vec::new(alloc);
     for (one, roots) in held.iter().zip(roots.iter()) {
-        let path = one.file.as_str();
+        let path = Some(one.file.as_str());
         let origins = match &one.origins {
             Some(origins) => line_origins(alloc, origins)?,
             None => Vec::new(alloc),
@@ -110,6 +106,22 @@ pub fn source_files<'a, 'h: 'a>(
         })?;
     }
     Ok(files)
+}
+
+/// The same of sections that have folded lines in the place of those of these files: their roots alone.
+pub fn roots_alone<'a>(
+    alloc: Global,
+    files: &[SourceFile<'a>],
+) -> Result<Vec<SourceFile<'a>>, AllocError> {
+    let mut sections = Vec::new(alloc);
+    for file in files {
+        sections.push(SourceFile {
+            path: None,
+            origins: Vec::new(alloc),
+            roots: file.roots,
+        })?;
+    }
+    Ok(sections)
 }
 
 /// Where each of these lines comes from.

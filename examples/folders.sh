@@ -20,6 +20,9 @@ wrong=0
 assumed='hubsync: for Unison 2.52 with -batch and no preference on its command line, where only these runs write,
 hubsync: no symbolic link is followed, each folder and host has one name, names differ as their bytes do,
 hubsync: and the folders above path lines exist'
+# the same where names fold, and what is said above it
+folds='hubsync: names fold by ignorecase, fat or folds-names: Docs and docs are one, and lines are shown as Unison folds them'
+assumed_of_folded=${assumed/names differ as their bytes do,/no name folds to nothing or to dots,}
 wider='hubsync: more counts with --unison than may happen: compare the answer without it'
 lines='hubsync: run one after the other, or add these lines, which hold for Unison too:'
 
@@ -574,11 +577,8 @@ LINES
     put remote/folding 'folds-names desk /hosts/other' 'folds-names  anna@desk /hosts/desk/' 'laptop~  /home/anna b' $'folds-names\tlaptop /'
     ask 0 check --unison remote/unison --hosts remote/folding <<LINES
 safe
-hubsync: note: desk: Unison on the host that is marked for it takes names that differ in case for one: this answer doesn't know that
-hubsync: note: home: Unison on the host that is marked for it takes names that differ in case for one: this answer doesn't know that
-hubsync: note: other: Unison on the host that is marked for it takes names that differ in case for one: this answer doesn't know that
-hubsync: note: top: Unison on the host that is marked for it takes names that differ in case for one: this answer doesn't know that
-$assumed
+$folds
+$assumed_of_folded
 LINES
     put remote/folding 'folds-names desk'
     ask 2 check --unison remote/unison --hosts remote/folding <<LINES
@@ -933,11 +933,78 @@ overlap: p30 writes team30 at /srv/hub, p31 reaches team30/a
 overlap: p31 writes team30/a at /srv/hub, p30 reaches team30/a
 hubsync: p30 (totals/p30.prf line 3): path = team30
 hubsync: p31 (totals/p31.prf line 3): path = team30/a
-hubsync: run one after the other, or give one other paths, an ignore or a bar
+$lines
+hubsync: p30: ignore = Path team30/a
+hubsync: p30: noupdatepartial = Path team30 -> /srv/hub
+hubsync: p30: nocreationpartial = Path team30 -> /srv/hub
+hubsync: p30 then no longer synchronizes team30/a
+$wider
+hubsync: without --unison: overlap: p30 writes team30 at /srv/hub, p31 reaches team30/a
 hubsync: 22 profiles, 231 pairs: 1 clashes, in 1 place
 LINES
     { printf 'rounds 2\nat least 2\n'; printf 'round 1 p%s\n' $(seq 10 30); echo 'round 2 p31'; printf '%s\n' "$assumed" \
         'hubsync: 22 profiles, 231 pairs: 1 clashes, in 1 place; 2 rounds'; } | ask 0 rounds --unison totals
+}
+
+# Names fold by a line, or by the host of a root.
+try_folding() {
+    local here
+    here=$(pwd -P)
+    put folding/one.prf 'root = /srv/hub' 'root = /srv/s1' 'path = Projects' 'ignorecase = true' 'ignore = Name *.TMP' 'height = 20'
+    put folding/two.prf 'root = /srv/hub' 'root = ssh://pc//s2' 'path = projects'
+    put folding/table 'pc /hosts/pc'
+    ask 1 check --unison folding --hosts folding/table <<LINES
+overlap: one writes projects at /srv/hub, two reaches projects
+$folds
+hubsync: lines that don't count, as Unison does no less without them: 1, first folding/one.prf line 6: height = 20
+hubsync: one, line 3 (bundle line 4): path = projects
+hubsync: two, line 3 (bundle line 9): path = projects
+hubsync: run one after the other, or give one other paths, an ignore or a bar
+hubsync: more counts with --unison than may happen
+LINES
+    ask 2 mend --unison folding --hosts folding/table <<LINES
+fault: profiles: NamesFold
+hubsync: names fold by ignorecase, fat or folds-names, and no lines are known that hold then: clashes says what clashes
+LINES
+    put folding/one.prf 'root = /srv/hub' 'root = /srv/s1' 'path = Projects'
+    ask 0 check --unison folding --hosts folding/table <<LINES
+safe
+$assumed
+LINES
+    put folding/table 'folds-names pc /hosts/pc'
+    ask 1 clashes --unison folding --hosts folding/table <<LINES
+overlap: one writes projects at /srv/hub, two reaches projects
+overlap: two writes projects at /srv/hub, one reaches projects
+$folds
+hubsync: one, line 3 (bundle line 4): path = projects
+hubsync: two, line 3 (bundle line 8): path = projects
+hubsync: run one after the other, or give one other paths, an ignore or a bar
+hubsync: more counts with --unison than may happen
+LINES
+    put folding/rules 'root = /srv/hub' 'nolose = Name a' 'nolose = Name ?'
+    ask 2 check --unison folding --hosts folding/table --rules folding/rules <<LINES
+fault: rules: UnknownRule 1
+hubsync: names fold by ignorecase, fat or folds-names, and this rule wouldn't hold for each spelling: write it without ?, with sets of ASCII alone, and with known characters
+LINES
+    put folding/two.prf 'root = /srv/hub' 'root = ssh://pc//s2' 'ignorecase = false'
+    ask 2 check --unison folding --hosts folding/table <<LINES
+fault: profile two line 5: UnknownPreference ignorecase
+hubsync: folding/two.prf line 5: ignorecase = true
+hubsync: hubsync has no answer for a profile with this line: let it run by itself, when no other profile runs, also by hand
+hubsync: lines that don't count, as Unison does no less without them: 1, first folding/two.prf line 3: ignorecase = false
+LINES
+    put folding/home/.unison/docs.prf "root = $here/folding/home" 'root = /srv/docs' 'path = .UNISON' 'fat = true' 'unicode = true'
+    ask 2 check --unison folding/home/.unison <<LINES
+fault: folding/home/.unison/docs.prf: ArchivesInRoot
+hubsync: $here/folding/home/.unison is in a root of folding/home/.unison/docs.prf: Unison would synchronize its own archives, while it writes them
+hubsync: add ignore = Path .unison, and keep nothing there by a path line
+LINES
+    put folding/home/.unison/docs.prf "root = $here/folding/home" 'root = /srv/docs' 'ignore = Path .unison' 'fat = true' 'unicode = true'
+    ask 0 check --unison folding/home/.unison <<LINES
+safe
+$folds
+$assumed_of_folded
+LINES
 }
 
 # All profiles of an office, and of the samples in Unison's manual, each by one call.
@@ -1063,6 +1130,7 @@ try_archives
 try_operands
 try_machines
 try_totals
+try_folding
 try_whole
 try_each
 try_refused

@@ -6,6 +6,7 @@ import shutil
 import subprocess
 import sys
 import tempfile
+import unicodedata
 
 TOP = os.path.dirname(os.path.dirname(os.path.realpath(__file__)))
 UNISON = os.environ.get('UNISON_PROGRAM', 'unison')    # another version, to be compared
@@ -29,6 +30,38 @@ HARMLESS = ['maxsizethreshold = 1', 'maxerrors = 1', 'mountpoint = a', 'immutabl
             'backup = Name *', 'backupcurr = Name *', 'backupcurrnot = Name a', 'backupnot = Name b', 'maxbackups = 1', 'backupprefix = v$VERSION.',
             'height = 20', 'sortbysize = true', 'sortnewfirst = true', 'sortfirst = Name a', 'sortlast = Name b', 'maxthreads = 1', 'copymax = 1',
             'stream = false', 'xferbycopying = false', 'halfduplex = true', 'sshargs = -C', 'confirmbigdel = false', 'auto = true']
+
+
+FOLDING = 'ignorecase = true'
+
+
+def spelled(rng, text):
+    """Another spelling of a text, which is the same where names fold."""
+    made = ''.join(it.swapcase() if rng.random() < 0.3 else it for it in text)
+    return unicodedata.normalize(rng.choice(['NFC', 'NFD']), made)
+
+
+def spelled_tree(rng, made):
+    """The tree with other spellings of its names."""
+    return {spelled(rng, name): spelled_tree(rng, it) if isinstance(it, dict) else it for name, it in made.items()}
+
+
+def spelled_line(rng, line):
+    """The line with another spelling of its path or pattern."""
+    name, equals, value = line.partition(' = ')
+    if name == 'path':
+        return name + equals + spelled(rng, value)
+    if name in ('ignore', 'ignorenot') or name.endswith('partial'):
+        kind, blank, rest = value.partition(' ')
+        text, arrow, root = rest.rpartition(' -> ') if name.endswith('partial') and ' -> ' in rest else (rest, '', '')
+        return name + equals + kind + blank + spelled(rng, text) + arrow + root
+    return line
+
+
+def folding(rng, lines):
+    """The lines of a profile whose names fold."""
+    kept = [line for line in lines if line.partition(' = ')[0] not in ('ignorecase', 'fat', 'unicode')]
+    return [spelled_line(rng, line) for line in kept] + [FOLDING]
 
 
 def jobs():
@@ -280,10 +313,29 @@ def from_start(room, profiles, order, at_once):
 
 
 def ask(program, bundle, *words):
-    """What hubsync answers to a bundle with `--unison`, and its status."""
+    """What hubsync answers to a bundle with `--unison`, and its status. Where names fold it reads files alone."""
     flag = () if '--unison' in words else ('--unison',)
+    if FOLDING in bundle:
+        return ask_of_files(program, bundle, *words, *flag)
     done = subprocess.run([program, *words, *flag], input=bundle.encode(), stdout=subprocess.PIPE, stderr=subprocess.DEVNULL)
     return done.stdout.decode(), done.returncode
+
+
+def ask_of_files(program, bundle, *words):
+    """The same, with a file for each section of the bundle: profiles and rules."""
+    with tempfile.TemporaryDirectory(prefix='unison-files.') as room:
+        files, rules = [], []
+        for section in bundle.split('\n%'):
+            heading, _, lines = section.removeprefix('%').partition('\n')
+            path = os.path.join(room, 'rules' if heading == 'rules' else heading.removeprefix('profile ') + '.prf')
+            with open(path, 'w', newline='') as file:
+                file.write(lines + '\n')
+            if heading == 'rules':
+                rules = ['--rules', path]
+            else:
+                files.append(path)
+        done = subprocess.run([program, *words, *rules, *files], stdout=subprocess.PIPE, stderr=subprocess.DEVNULL)
+        return done.stdout.decode(), done.returncode
 
 
 def nested(found):

@@ -55,6 +55,14 @@ impl SpecSetBuilder {
         self.alternatives.len()
     }
 
+    /// Returns how many positions all that is collected has. They are at most `SPOTS`.
+    pub fn spot_count(&self) -> usize
+        ensures value { result ≡ seeing.spots_count self.now }
+        ensures few { result ≤ SPOTS }
+    {
+        self.spots
+    }
+
     /// Adds specifications, in their order.
     ///
     /// The fault is `TooManySpots` when all that is collected would have more than `SPOTS` positions, or `OutOfMemory`.

@@ -11,6 +11,9 @@ pub mod Once
 pub mod InductiveTexts
 pub mod CertificateFacts
 pub mod SetFacts
+pub mod Seen
+pub mod Namesakes
+pub mod DistinctRoots
 pub mod Numbers
 pub mod Writable
 pub mod ReadBack
@@ -36,3 +39,4 @@ pub mod NearInOrder
 pub mod NearRows
 pub mod Finite
 pub mod Closed
+pub mod PlaceNumbers

@@ -8,19 +8,21 @@ ghost use Rattle.hub_cert.specs.Set as of_set;
 ghost use Rattle.hub_cert.specs.Goals as of_goals;
 ghost use Rattle.hub_cert.specs.Refused as refused;
 ghost use Rattle.hub_cert.specs.Set.{OfMembers, OfProfiles};
-ghost use Rattle.hub_cert.specs.Goals.{AddsGoals, breaches_by, clashes_between, clashes_by};
+ghost use Rattle.hub_cert.specs.Goals.{AddsGoals, breaches_by};
 
 pub(crate) mod apart;
 pub(crate) mod forbidden;
 pub(crate) mod kept_values;
 pub(crate) mod nearness;
+pub(crate) mod places;
 pub(crate) mod refusals;
 
 use crate::fault::CheckFault;
 use crate::goal::{Goal, Place};
+use crate::set::places::SharedPlaces;
 use crate::set::refusals::alphabet_for;
 use hub_automaton::Alphabet;
-use hub_path::{Root, Side};
+use hub_path::Root;
 use hub_profile::{Profile, Rule, Rules};
 use hub_reach::{may, writes};
 use hub_text::Items;
@@ -148,61 +150,15 @@ impl ProfileSet {
     pub fn goals(&self, alloc: Global) -> Result<Items<Goal>, AllocError>
         ensures { IfOk result (λ gs. gs ≡ of_goals.goals self.now) }
     {
+        let places = SharedPlaces::of(alloc, self)?;
         let mut goals = Vec::new(alloc);
         for writer in 0..self.profiles.len() {
-            self.push_clashes(&mut goals, writer)?;
+            places.push_clashes(&mut goals, writer)?;
         }
         for profile in 0..self.profiles.len() {
             self.push_breaches(&mut goals, profile)?;
         }
         Ok(Items::from_vec(goals))
-    }
-
-    /// Appends the clashes of that writer.
-    fn push_clashes(&self, goals: &mut Vec<Goal>, writer: usize) -> Result<(), AllocError>
-        ensures { OnOk result
-            (AddsGoals self.now goals.old.items goals.new.items (clashes_by self.now writer)) }
-    {
-        for other in 0..self.profiles.len() {
-            self.push_places(goals, writer, other)?;
-        }
-        Ok(())
-    }
-
-    /// Appends the clashes of that writer with that other profile.
-    fn push_places(
-        &self,
-        goals: &mut Vec<Goal>,
-        writer: usize,
-        other: usize,
-    ) -> Result<(), AllocError>
-        ensures { OnOk result
-            (AddsGoals self.now goals.old.items goals.new.items (clashes_between writer other)) }
-    {
-        self.push_clash(goals, writer, other, Place::Replica(Side::Left))?;
-        self.push_clash(goals, writer, other, Place::Replica(Side::Right))?;
-        self.push_clash(goals, writer, other, Place::Archive)
-    }
-
-    /// Appends the clash at that place, if it is a goal of the set.
-    fn push_clash(
-        &self,
-        goals: &mut Vec<Goal>,
-        writer: usize,
-        other: usize,
-        place: Place,
-    ) -> Result<(), AllocError>
-        ensures { OnOk result
-            (AddsGoals self.now goals.old.items goals.new.items (Clash writer other place ∷ [])) }
-    {
-        self.push_goal(
-            goals,
-            Goal::Clash {
-                writer,
-                other,
-                place,
-            },
-        )
     }
 
     /// Appends the breaches of that profile.

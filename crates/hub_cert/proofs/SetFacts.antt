@@ -1,13 +1,12 @@
 -- What the tests of a set tell of its profiles and rules.
-use Rattle.std.proofs.Common.{◌≡◌, ⊎_elim, ◌∙◌, ℕ, zero, suc, ◌+◌, ◌<◌, ◌≤◌, Bool, true, false, not, ◌&&◌, ◌||◌, List, [], ◌∷◌, ◌++◌, map, length, take, get_or, Some, refl, sym, ap, subst, arith, append_assoc, append-nil}
+use Rattle.std.proofs.Common.{◌≡◌, ◌∙◌, ℕ, zero, suc, ◌+◌, ◌<◌, ◌≤◌, Bool, true, false, not, ◌&&◌, ◌||◌, List, [], ◌∷◌, ◌++◌, map, length, take, get_or, Some, refl, sym, ap, subst, arith, append_assoc, append-nil}
 use Rattle.std.specs.Prelude.{slice_get, nat_lt}
 use Rattle.std.specs.List.{flat_map}
-use Rattle.std.proofs.lemmas.Bool.{false≢true, or_left, or_right}
+use Rattle.std.proofs.lemmas.Bool.{or_left, or_right}
 use Rattle.std.proofs.lemmas.Bool.Decides.{nat_tests}
 use Rattle.std.proofs.lemmas.List.{take_more}
 use Rattle.std.proofs.lemmas.List.Concat.{flat_map-append}
 use Rattle.std.proofs.lemmas.Option.{same_Some, slice_get_read, slice_get_within}
-use Rattle.hub_text.specs.laws.List.{less-or-same}
 use Rattle.hub_path.specs.laws.General.{path_eq-decides}
 use Rattle.hub_path.specs.Path.{Path, path_eq, is_over}
 use Rattle.hub_automaton.specs.Alphabet.{IsAlphabet, mentions, spec_characters}
@@ -23,21 +22,6 @@ use Rattle.hub_automaton.specs.declared.fault.AutomatonFault.TheVariants as auto
 use Rattle.hub_profile.specs.declared.rule.Rule.{Rule}
 
 -- Names.
-pub not-one-name : (Ps : List Parts) (i j : ℕ) (P Q : Parts) → slice_get Ps i ≡ Some P → slice_get Ps j ≡ Some Q → (P.name ≡ Q.name → ⊥) → HaveSameName Ps i j → ⊥
-not-one-name Ps i j P Q at_i at_j differ h =
-    let e : h.first ≡ P = same_Some h.first P (sym h.at_first ∙ at_i) in
-    let f : h.second ≡ Q = same_Some h.second Q (sym h.at_second ∙ at_j) in
-    differ (ap (λ (X : Parts). X.name) (sym e) ∙ (h.same ∙ ap (λ (X : Parts). X.name) f))
-
-abbrev pub NoneNamed : List Parts → ℕ → ℕ → Type 0
-NoneNamed Ps later below = (i : ℕ) → i < below → HaveSameName Ps i later → ⊥
-
-pub none-named-more : (Ps : List Parts) (later n : ℕ) → (HaveSameName Ps n later → ⊥) → NoneNamed Ps later n → NoneNamed Ps later (n + 1)
-none-named-more Ps later n here before i l h = ⊎_elim (λ less. before i less h) (λ same. here (subst (λ (k : ℕ). HaveSameName Ps k later) same h)) (less-or-same i n l)
-
-abbrev pub NoneRepeated : List Parts → ℕ → Type 0
-NoneRepeated Ps below = (i j : ℕ) → i < j → j < below → HaveSameName Ps i j → ⊥
-
 pub have-names : (S : Members) → ((i j : ℕ) → i < j → HaveSameName S.profiles i j → ⊥) → HaveOwnNames S
 have-names S none i j P Q at_i at_j differ same = go (nat_lt i j) (nat_lt j i) refl refl
   where
@@ -47,38 +31,6 @@ have-names S none i j P Q at_i at_j differ same = go (nat_lt i j) (nat_lt j i) r
     go false false e f = differ (grind (arith, nat_tests, e, f))
 
 -- Roots.
-pub not-nested : (rs : List Path) (i j : ℕ) (p q : Path) → slice_get rs i ≡ Some p → slice_get rs j ≡ Some q → is_nested p q ≡ false → AreNested rs i j → ⊥
-not-nested rs i j p q at_i at_j apart h =
-    let e : h.first ≡ p = same_Some h.first p (sym h.at_first ∙ at_i) in
-    let f : h.second ≡ q = same_Some h.second q (sym h.at_second ∙ at_j) in
-    false≢true (sym apart ∙ ((λ i. is_nested (sym e i) (sym f i)) ∙ h.nested))
-
-abbrev pub NoneAfter : List Path → ℕ → ℕ → Type 0
-NoneAfter rs i below = (n : ℕ) → i < n → n < below → AreNested rs i n → ⊥
-
-pub none-after-more : (rs : List Path) (i n : ℕ) → (AreNested rs i n → ⊥) → NoneAfter rs i n → NoneAfter rs i (n + 1)
-none-after-more rs i n here before m l k h = ⊎_elim (λ less. before m l less h) (λ same. here (subst (λ (j : ℕ). AreNested rs i j) same h)) (less-or-same m n k)
-
-pub all-after : (rs : List Path) (i n : ℕ) → length rs ≤ n → NoneAfter rs i n → (m : ℕ) → i < m → AreNested rs i m → ⊥
-all-after rs i n long none m l h = let k = slice_get_within rs m h.second h.at_second in none m l (omega (arith, k, long)) h
-
-abbrev pub NoneNested : List Path → ℕ → Type 0
-NoneNested rs below = (m n : ℕ) → m < n → m < below → AreNested rs m n → ⊥
-
-pub first-nested : (rs : List Path) (i j : ℕ) → i < j → AreNested rs i j → NoneAfter rs i j → NoneNested rs i → AreFirstNested rs i j
-first-nested rs i j l h after before = record {
-  before = l;
-  nested = h;
-  none_before = λ m n k early are.
-      ⊎_elim
-      (λ less. before m n k less are)
-      (λ same. after n (subst (λ (x : ℕ). x < n) same.0 k) same.1 (subst (λ (x : ℕ). AreNested rs x n) same.0 are))
-      early;
-}
-
-pub all-roots : (rs : List Path) (n : ℕ) → length rs ≤ n → NoneNested rs n → (i j : ℕ) → i < j → AreNested rs i j → ⊥
-all-roots rs n long none i j l h = let m = slice_get_within rs i h.first h.at_first in none i j l (omega (arith, m, long)) h
-
 apart-bits : (e a b : Bool) → (not e && (a || b)) ≡ false → (a || b) ≡ true → e ≡ true
 apart-bits true a b h k = refl
 apart-bits false a b h k = cc

@@ -21,12 +21,9 @@ pub record HaveSameName (Ps : List Parts) (i j : ℕ) : Type 0 where
   pub at_second : slice_get Ps j ≡ Some second
   pub same : first.name ≡ second.name
 
--- A profile before that one has its name; or none does.
+-- A profile before that one has its name.
 abbrev pub HasNamesakeBefore : List Parts → ℕ → Type 0
 HasNamesakeBefore Ps later = (i : ℕ) × (i < later) × HaveSameName Ps i later
-
-abbrev pub NoNamesakeBefore : List Parts → ℕ → Type 0
-NoNamesakeBefore Ps later = (i : ℕ) → i < later → HaveSameName Ps i later → ⊥
 
 -- No two profiles have the same name; or that one is the first that has the name of an earlier one.
 abbrev pub NoNamesakes : List Parts → Type 0
@@ -68,14 +65,27 @@ pub record AreFirstNested (rs : List Path) (i j : ℕ) : Type 0 where
   pub nested : AreNested rs i j
   pub none_before : (m n : ℕ) → m < n → (m < i) ⊎ ((m ≡ i) × (n < j)) → AreNested rs m n → ⊥
 
--- No root after that one is nested with it; or the other one is the first that is.
-abbrev pub NoneNestedAfter : List Path → ℕ → Type 0
-NoneNestedAfter rs i = (n : ℕ) → i < n → AreNested rs i n → ⊥
+-- The numbers of the roots that equal no earlier one, in ascending order.
+pub record AreDistinctRoots (rs : List Path) (ns : List ℕ) : Type 0 where
+  pub ascending : (k l m n : ℕ) → k < l → slice_get ns k ≡ Some m → slice_get ns l ≡ Some n → m < n
+  pub within : (k n : ℕ) → slice_get ns k ≡ Some n → n < length rs
+  pub each : (i : ℕ) (r : Path) → slice_get rs i ≡ Some r
+      → (k n : ℕ) × (slice_get ns k ≡ Some n) × (n ≤ i) × (slice_get rs n ≡ Some r)
 
-abbrev pub IsFirstNestedAfter : List Path → ℕ → ℕ → Type 0
-IsFirstNestedAfter rs i j =
-    (i < j) × AreNested rs i j × ((n : ℕ) → i < n → n < j → AreNested rs i n → ⊥)
+-- Two of the roots with these numbers, by their places among them, that are nested.
+abbrev pub AreNestedAt : List Path → List ℕ → ℕ → ℕ → Type 0
+AreNestedAt rs ns k l =
+    (m n : ℕ) × (slice_get ns k ≡ Some m) × (slice_get ns l ≡ Some n) × AreNested rs m n
 
+-- None of them after that one is nested with it; or the other one is the first that is.
+abbrev pub NoneNestedAfter : List Path → List ℕ → ℕ → Type 0
+NoneNestedAfter rs ns k = (l : ℕ) → k < l → AreNestedAt rs ns k l → ⊥
+
+abbrev pub IsFirstNestedAfter : List Path → List ℕ → ℕ → ℕ → Type 0
+IsFirstNestedAfter rs ns k l =
+    (k < l) × AreNestedAt rs ns k l × ((o : ℕ) → k < o → o < l → AreNestedAt rs ns k o → ⊥)
+
+-- The first two nested roots, as they are shown.
 pub record AreShownNested (rs : List Path) (r s : Path) : Type 0 where
   pub earlier : ℕ
   pub later : ℕ

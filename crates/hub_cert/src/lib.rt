@@ -69,6 +69,7 @@ pub use product::{Product, rule_set_of, slash_class, walker_of};
 pub use set::apart::safe_by_values;
 pub use set::forbidden::{Forbidden, forbidden_to};
 pub use set::nearness::Nearness;
+pub use set::refusals::roots_of;
 pub use set::{PROFILES, ProfileSet};
 pub use verifier::Verifier;
 pub use verifier::stage_texts::StageTexts;

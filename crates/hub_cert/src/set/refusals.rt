@@ -1,22 +1,25 @@
 //! Why profiles and rules make no set.
-ghost use Rattle.std.specs.Prelude.{◌≡◌, ◌<◌, ◌≤◌, ◌++◌, ℕ, length, slice_get, Some, IfOk, IfErr, OnOk, MatchBool, MatchOption};
+ghost use Rattle.std.specs.Prelude.{◌≡◌, ◌<◌, ◌≤◌, ◌∷◌, ◌++◌, [], ℕ, length, slice_get, Some, IfOk, IfErr, OnOk, MatchOption};
 ghost use Rattle.hub_automaton.specs.Alphabet.{plain, RefusesCharacters};
+ghost use Rattle.hub_automaton.specs.Spots.{RefusesSpots, alternatives_of, spots_count};
+ghost use Rattle.hub_automaton.specs.declared.alternatives.TheConstants.{SPOTS};
 ghost use Rattle.hub_profile.specs.Parts.{Parts, IsProfile};
 ghost use Rattle.hub_profile.specs.declared.rules.TheConstants.{RULES};
-ghost use Rattle.hub_reach.specs.Mention.{Mentions};
 ghost use Rattle.hub_cert.specs.Set as of_set;
 ghost use Rattle.hub_cert.specs.Refused as refused;
 ghost use Rattle.hub_cert.specs.Set.{OfMembers, OfProfiles};
-ghost use Rattle.hub_cert.specs.Refused.{AreFirstNested, HasNamesakeBefore, IsFirstNestedAfter, NoNamesakeBefore, NoneNested, NoneNestedAfter};
+ghost use Rattle.hub_cert.specs.Refused.{AreDistinctRoots, AreFirstNested, IsFirstNestedAfter, NoneNested, NoneNestedAfter};
 
 use crate::fault::CheckFault;
 use crate::set::PROFILES;
 use hub_automaton::laws::what_is_added_is_mentioned;
-use hub_automaton::{Alphabet, AutomatonFault, SpecSet};
+use hub_automaton::{Alphabet, AutomatonFault, SpecSetBuilder};
+use hub_glob::PathSpec;
 use hub_path::Root;
 use hub_profile::{Profile, Rule};
 use hub_reach::{Walker, mention_each};
 use std::alloc::{AllocError, Global};
+use std::collections::BTreeSet;
 use std::slice::from_ref;
 
 /// Returns the alphabet of the set of these profiles and rules, or why they make none.
@@ -29,7 +32,7 @@ pub(crate) fn alphabet_for(
     ensures ok { OfMembers profiles.now rules.now (λ S. IfOk result (λ a. of_set.IsSet S a)) }
     ensures err { OfMembers profiles.now rules.now (λ S. IfErr result (refused.IsRefused S)) }
 {
-    check_names(profiles)?;
+    check_names(alloc, profiles)?;
     check_roots(alloc, profiles, rules)?;
     match alphabet_within_limits(alloc, profiles, rules) {
         Ok(alphabet) => Ok(alphabet),
@@ -38,14 +41,14 @@ pub(crate) fn alphabet_for(
 }
 
 /// Returns why profiles are too many, or have no different names.
-fn check_names(profiles: &[Profile]) -> Result<(), CheckFault>
+fn check_names(alloc: Global, profiles: &[Profile]) -> Result<(), CheckFault>
     ensures ok { OfProfiles profiles.now (λ S. OnOk result (refused.FewNamed S)) }
     ensures err { OfProfiles profiles.now (λ S. IfErr result (refused.IsRefused S)) }
 {
     if profiles.len() > PROFILES {
         return Err(CheckFault::TooManyProfiles);
     }
-    if let Some(later) = repeated_name(profiles) {
+    if let Some(later) = repeated_name(alloc, profiles)? {
         return Err(CheckFault::SameName {
             name: profiles[later].name().copy()?,
         });
@@ -63,7 +66,7 @@ fn check_roots(alloc: Global, profiles: &[Profile], rules: &[Rule]) -> Result<()
 {
     let roots = roots_of(alloc, profiles, rules)?;
     let all = roots.as_slice();
-    if let Some((first, second)) = nested_roots(all) {
+    if let Some((first, second)) = nested_roots(alloc, all)? {
         return Err(CheckFault::NestedRoots {
             first: all[first].copy()?,
             second: all[second].copy()?,
@@ -99,59 +102,81 @@ fn alphabet_within_limits(
     ensures err { OfMembers profiles.now rules.now (λ S. IfErr result (refused.IsTooMuch S)) }
 {
     let alphabet = alphabet_with(alloc, profiles, rules)?;
-    check_profile_spots(alloc, &alphabet, profiles)?;
-    check_rule_spots(alloc, &alphabet, rules)?;
+    check_profile_spots(alloc, profiles)?;
+    check_rule_spots(alloc, rules)?;
     Ok(alphabet)
 }
 
 /// Returns the first profile that has the name of an earlier one.
-pub(crate) fn repeated_name(profiles: &[Profile]) -> Option<usize>
-    ensures { MatchOption result (refused.NoNamesakes profiles.now)
-        (refused.IsFirstNamesake profiles.now) }
+///
+/// For n profiles it compares names n log n times, since it keeps them in a set.
+pub(crate) fn repeated_name(
+    alloc: Global,
+    profiles: &[Profile],
+) -> Result<Option<usize>, AllocError>
+    ensures { IfOk result (λ later. MatchOption later (refused.NoNamesakes profiles.now)
+        (refused.IsFirstNamesake profiles.now)) }
 {
-    for later in 0..profiles.len() {
-        if has_namesake_before(profiles, later) {
-            return Some(later);
+    let mut names = BTreeSet::new(alloc);
+    for (later, profile) in profiles.iter().enumerate() {
+        if !names.insert(profile.name())? {
+            return Ok(Some(later));
         }
     }
-    None
-}
-
-/// Returns whether a profile before that one has its name.
-fn has_namesake_before(profiles: &[Profile], later: usize) -> bool
-    requires { later < length profiles.now }
-    ensures { MatchBool result (HasNamesakeBefore profiles.now later)
-        (NoNamesakeBefore profiles.now later) }
-{
-    for earlier in 0..later {
-        if profiles[earlier].name() == profiles[later].name() {
-            return true;
-        }
-    }
-    false
+    Ok(None)
 }
 
 /// Returns the first pair of nested roots.
-pub(crate) fn nested_roots(roots: &[Root]) -> Option<(usize, usize)>
+///
+/// It tests each two different roots. Equal ones are found by a set, since most profiles share one of their roots.
+pub(crate) fn nested_roots(
+    alloc: Global,
+    roots: &[Root],
+) -> Result<Option<(usize, usize)>, AllocError>
+    ensures { IfOk result (λ nested. MatchOption nested (NoneNested roots.now)
+        (λ pair. AreFirstNested roots.now pair.0 pair.1)) }
+{
+    let distinct = distinct_roots(alloc, roots)?;
+    Ok(nested_among(roots, distinct.as_slice()))
+}
+
+/// Returns the numbers of the roots that equal no earlier one, in ascending order.
+fn distinct_roots(alloc: Global, roots: &[Root]) -> Result<Vec<usize>, AllocError>
+    ensures { IfOk result (λ v. AreDistinctRoots roots.now v.items) }
+{
+    let mut known = BTreeSet::new(alloc);
+    let mut distinct = Vec::new(alloc);
+    for (number, root) in roots.iter().enumerate() {
+        if known.insert(root.path())? {
+            distinct.push(number)?;
+        }
+    }
+    Ok(distinct)
+}
+
+/// Returns the first pair of nested roots, given the numbers of those that equal no earlier one.
+fn nested_among(roots: &[Root], distinct: &[usize]) -> Option<(usize, usize)>
+    requires { AreDistinctRoots roots.now distinct.now }
     ensures { MatchOption result (NoneNested roots.now)
         (λ pair. AreFirstNested roots.now pair.0 pair.1) }
 {
-    for first in 0..roots.len() {
-        if let Some(second) = nested_root_after(roots, first) {
-            return Some((first, second));
+    for first in 0..distinct.len() {
+        if let Some(second) = nested_root_after(roots, distinct, first) {
+            return Some((distinct[first], distinct[second]));
         }
     }
     None
 }
 
-/// Returns the first root after that one such that one of the two lies within the other.
-fn nested_root_after(roots: &[Root], first: usize) -> Option<usize>
-    requires { first < length roots.now }
-    ensures { MatchOption result (NoneNestedAfter roots.now first)
-        (IsFirstNestedAfter roots.now first) }
+/// Returns the first of the distinct roots after that one such that one of the two lies within the other.
+fn nested_root_after(roots: &[Root], distinct: &[usize], first: usize) -> Option<usize>
+    requires first { first < length distinct.now }
+    requires distinct { AreDistinctRoots roots.now distinct.now }
+    ensures { MatchOption result (NoneNestedAfter roots.now distinct.now first)
+        (IsFirstNestedAfter roots.now distinct.now first) }
 {
-    for second in first + 1..roots.len() {
-        if is_nested(&roots[first], &roots[second]) {
+    for second in first + 1..distinct.len() {
+        if is_nested(&roots[distinct[first]], &roots[distinct[second]]) {
             return Some(second);
         }
     }
@@ -164,8 +189,10 @@ fn is_nested(root: &Root, other: &Root) -> bool
     root != other && (other.is_within(root) || root.is_within(other))
 }
 
-/// Returns the roots of the profiles, and then those of the rules.
-pub(crate) fn roots_of(
+/// Returns copies of the roots of the profiles, and then of those of the rules.
+///
+/// The only error is that it is out of memory.
+pub fn roots_of(
     alloc: Global,
     profiles: &[Profile],
     rules: &[Rule],
@@ -218,34 +245,35 @@ pub(crate) fn alphabet_with(
 }
 
 /// Returns `TooManySpots` if a profile has too many spots for a walker.
-pub(crate) fn check_profile_spots(
-    alloc: Global,
-    alphabet: &Alphabet,
-    profiles: &[Profile],
-) -> Result<(), AutomatonFault>
-    requires { (i : ℕ) (P : Parts) → slice_get profiles.now i ≡ Some P → Mentions alphabet.now P }
+pub(crate) fn check_profile_spots(alloc: Global, profiles: &[Profile]) -> Result<(), AutomatonFault>
     ensures few { OnOk result (of_set.ProfilesHaveFewSpots profiles.now) }
     ensures err { IfErr result (refused.RefusesProfiles profiles.now) }
 {
     for profile in profiles {
-        // A call of `drop` is cheaper to prove than the drop of a value that is thrown away.
-        drop(Walker::new(alloc, profile, alphabet)?);
+        Walker::check_spots(alloc, profile)?;
     }
     Ok(())
 }
 
 /// Returns `TooManySpots` if a rule's specification has too many spots for a `SpecSet`.
-pub(crate) fn check_rule_spots(
-    alloc: Global,
-    alphabet: &Alphabet,
-    rules: &[Rule],
-) -> Result<(), AutomatonFault>
-    requires { of_set.MentionsRules alphabet.now rules.now }
+pub(crate) fn check_rule_spots(alloc: Global, rules: &[Rule]) -> Result<(), AutomatonFault>
     ensures few { OnOk result (of_set.RulesHaveFewSpots rules.now) }
     ensures err { IfErr result (refused.RefusesRules rules.now) }
 {
     for rule in rules {
-        drop(SpecSet::build(alloc, alphabet, from_ref(&rule.spec))?);
+        check_spec_spots(alloc, &rule.spec)?;
     }
+    Ok(())
+}
+
+/// Returns `TooManySpots` if a specification has too many spots for a `SpecSet`. It only counts them.
+fn check_spec_spots(alloc: Global, spec: &PathSpec) -> Result<(), AutomatonFault>
+    ensures few { OnOk result (spots_count (alternatives_of spec.now ∷ []) ≤ SPOTS) }
+    ensures err { IfErr result (RefusesSpots (alternatives_of spec.now ∷ [])) }
+{
+    let mut builder = SpecSetBuilder::new(alloc);
+    builder.add_specs(from_ref(spec))?;
+    // Its contract says that there are at most `SPOTS`.
+    let _ = builder.spot_count();
     Ok(())
 }

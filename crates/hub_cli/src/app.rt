@@ -190,7 +190,7 @@ fn with_unison<'a>(alloc: Global, command: Box<Command<'a>>) -> Result<Box<Comma
     ensures { IfOk result
         (λ c. IsCommand (words.with_unison (app_of command.entry.value)) c.value) }
 {
-    let unison = "Answer about what Unison 2.52 may do by the profiles";
+    let unison = "Answer about what Unison 2.51 to 2.53 may do by the profiles";
     with_argument(alloc, command, flag(alloc, "unison", unison))
 }
 

@@ -76,7 +76,7 @@ pub(crate) const PLAN: Help = Help {
 
 /// That of `import`.
 pub(crate) const IMPORT: Help = Help {
-    about: "Writes a bundle of what Unison 2.52 may do by the profiles",
+    about: "Writes a bundle of what Unison 2.51 to 2.53 may do by the profiles",
     usage: "hubsync import < BUNDLE\n       hubsync import [OPTIONS] FILE.prf..\n       \
         hubsync import [OPTIONS] FOLDER",
     example: "Example: hubsync import ~/.unison > office.bundle",
@@ -200,8 +200,9 @@ a host in roots as ssh://HOST//srv. '--verbose' lists on standard error each
 line that doesn't count, and each that is refused.
 
 With '--unison', 'check', 'clashes', 'mend', 'rounds' and 'reach' answer about
-what Unison 2.52 may do by the profiles, not about hubsync's own reading of them.
-What is safe then is safe in Unison, under what standard error says is assumed.
+what Unison 2.51 to 2.53 may do by the profiles, not about hubsync's own reading
+of them. What is safe then is safe in Unison, under what standard error says is
+assumed.
 An overlap or a breach may come of this reading alone: compare with the answer
 without it. 'import' and 'plan' read the profiles in the same way. 'import' writes
 such readings as a bundle, as for 'certify'.

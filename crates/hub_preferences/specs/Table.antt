@@ -76,15 +76,20 @@ without_influence names = map (λ (name : List ℕ). (name, means rule.LeftOut e
 -- These are about connections, and about how files are copied.
 abbrev pub transfers : List (List ℕ × Meaning)
 transfers = without_influence
-    (codes "addversionno"
+    (codes "acl"
+    ∷ codes "addversionno"
     ∷ codes "clientHostName"
     ∷ codes "copymax"
     ∷ codes "copyquoterem"
     ∷ codes "halfduplex"
+    ∷ codes "host"
     ∷ codes "killserver"
     ∷ codes "maxthreads"
     ∷ codes "rsync"
     ∷ codes "stream"
+    ∷ codes "xattrignore"
+    ∷ codes "xattrignorenot"
+    ∷ codes "xattrs"
     ∷ codes "xferbycopying"
     ∷ [])
 

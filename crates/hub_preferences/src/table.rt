@@ -57,9 +57,10 @@ pub enum Effect {
 /// Where it is from what a preference does.
 #[derive(Clone, Copy, Debug, PartialEq, Eq)]
 pub enum Source {
-    /// The manual of Unison 2.52.1, "Preferences".
+    /// The manual of Unison 2.52.1, "Preferences", or of a version that has it: 2.51.5 or 2.53.7.
     Manual,
-    /// Unison 2.52.1 was given such a line. For many it was only seen to take it: what it changes is then from the manual.
+    /// Unison 2.52.1, or 2.53.7 where only that has it, was given such a line. For many it was only seen to take it: what it changes is
+    /// then from the manual.
     Trial,
 }
 

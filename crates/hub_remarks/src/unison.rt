@@ -15,15 +15,16 @@ use std::collections::BTreeSet;
 
 /// What an answer for Unison assumes.
 const ASSUMED: &str = "\
-hubsync: for Unison 2.52 with -batch and no preference on its command line, where only these runs write,
+hubsync: for Unison 2.51 to 2.53 with -batch and no preference on its command line, where only these runs write,
 hubsync: no symbolic link is followed, each folder and host has one name, names differ as their bytes do,
 hubsync: and the folders above path lines exist
 ";
 
 /// The same where names fold.
 const ASSUMED_OF_FOLDED: &str = "\
-hubsync: for Unison 2.52 with -batch and no preference on its command line, where only these runs write,
+hubsync: for Unison 2.51 to 2.53 with -batch and no preference on its command line, where only these runs write,
 hubsync: no symbolic link is followed, each folder and host has one name, no name folds to nothing or to dots,
+hubsync: no disk takes two names for one that Unison takes for two, macOS copies no resource forks (rsrc = false),
 hubsync: and the folders above path lines exist
 ";
 

@@ -155,7 +155,7 @@ fn say_unknown_preference(out: &mut String, alloc: Global, line: &SourceLine<'_>
             alloc,
             name,
             PREFERENCES,
-            "Unison 2.52 has no preference of this name that hubsync knows",
+            "no Unison from 2.51 to 2.53 has a preference of this name that hubsync knows",
         );
     }
     if is_left_out(alloc, line)? {

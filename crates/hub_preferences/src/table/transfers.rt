@@ -1,9 +1,19 @@
-//! The preferences on connections, and on how files are copied.
+//! The preferences on connections, and on how files are copied. Unison 2.52 has no `host`, which 2.51 has, and neither `acl` nor
+//! `xattrs`, `xattrignore` and `xattrignorenot`, which 2.53 has.
 
 use crate::table::{Effect, Preference, Rule, Source};
 
 /// The preferences on connections, and on how files are copied.
-pub const TRANSFERS: [(&str, Preference); 10] = [
+pub const TRANSFERS: [(&str, Preference); 15] = [
+    (
+        "acl",
+        Preference {
+            rule: Rule::LeftOut,
+            effect: Effect::NoInfluence,
+            reason: "it is about attributes of files",
+            source: Source::Trial,
+        },
+    ),
     (
         "addversionno",
         Preference {
@@ -50,6 +60,15 @@ pub const TRANSFERS: [(&str, Preference); 10] = [
         },
     ),
     (
+        "host",
+        Preference {
+            rule: Rule::LeftOut,
+            effect: Effect::NoInfluence,
+            reason: "it is about the connection",
+            source: Source::Manual,
+        },
+    ),
+    (
         "killserver",
         Preference {
             rule: Rule::LeftOut,
@@ -82,6 +101,33 @@ pub const TRANSFERS: [(&str, Preference); 10] = [
             rule: Rule::LeftOut,
             effect: Effect::NoInfluence,
             reason: "it is about how a file is copied",
+            source: Source::Trial,
+        },
+    ),
+    (
+        "xattrignore",
+        Preference {
+            rule: Rule::LeftOut,
+            effect: Effect::NoInfluence,
+            reason: "it is about attributes of files",
+            source: Source::Manual,
+        },
+    ),
+    (
+        "xattrignorenot",
+        Preference {
+            rule: Rule::LeftOut,
+            effect: Effect::NoInfluence,
+            reason: "it is about attributes of files",
+            source: Source::Manual,
+        },
+    ),
+    (
+        "xattrs",
+        Preference {
+            rule: Rule::LeftOut,
+            effect: Effect::NoInfluence,
+            reason: "it is about attributes of files",
             source: Source::Trial,
         },
     ),

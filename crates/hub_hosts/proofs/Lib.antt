@@ -1,4 +1,6 @@
 mod Absolute
+mod DriveNames
+mod DriveText
 mod Machines
 mod NoLf
 mod Numbers

@@ -7,10 +7,13 @@ use Rattle.hub_text.specs.declared.line.Line.{Line}
 use Rattle.hub_text.specs.Lines.{lines_of, without_last_cr}
 use Rattle.hub_text.specs.laws.List.{some-item}
 use Rattle.hub_hosts.specs.Profiles.{from_arrow, from_root, line_for, line_from, root_in, sets_arrow, sets_root, text_for, value_of, whole_line_for, with_root, with_root_if}
-use Rattle.hub_hosts.specs.Remotes.{base_for, folder_path, local, local_of, is_local, path_below, path_of, path_of_local, remote_for, remote_in, remote_of, remote_on}
+use Rattle.hub_hosts.specs.Drives.{below_of, is_top, text_of}
+use Rattle.hub_hosts.specs.Remotes.{base_for, folder_path, is_local, is_local_drive, local, local_of, path_below, path_of, path_of_local, remote_for, remote_in, remote_of, remote_on}
 use Rattle.hub_hosts.specs.Table.{Row, blanks, rows_of, slash}
 use Rattle.hub_hosts.specs.Words.{before, begins_with, behind, behind_last_arrow, from_first, skip}
+use Rattle.hub_hosts.specs.declared.drive.Below.{Below}
 use Rattle.hub_hosts.specs.declared.remote.Remote.{Remote}
+use Rattle.hub_hosts.proofs.DriveText.{below_of-no_lf}
 use Rattle.hub_hosts.proofs.NoLf.{IfNoLf, append-no_lf, behind_last_arrow-no_lf, drop-no_lf, from_first-no_lf, has_lf, if-no_lf, map-no_lf, skip-no_lf, skip_end-no_lf, take-no_lf, without_last_cr-no_lf}
 use Rattle.hub_hosts.proofs.TableLines.{HavePaths, IfBase, IsBase, base_for-base, rows_of-paths}
 use Rattle.hub_text.specs.laws.WholeLines.{AreLines, AreLines-lines_of, lines_of-text_of_lines}
@@ -29,23 +32,24 @@ folder_path-part (b ∷ bs) h =
     let e : folder_path (b ∷ bs) ≡ b ∷ bs = ap (λ t. cond t slash (b ∷ bs)) (some-item b bs) in
     subst IsPart (sym e) (h.0, omega arith)
 
-path_below-part : (base below : List ℕ) → IsBase base → has_lf below ≡ false → IsPart (path_below base below)
-path_below-part base [] h k = folder_path-part base h
-path_below-part base (c ∷ cs) h k =
-    let whole = base ++ slash ++ (c ∷ cs) in
-    let e : path_below base (c ∷ cs) ≡ whole = ap (λ t. cond t (folder_path base) whole) (some-item c cs) in
-    subst IsPart (sym e) (
-      append-no_lf (base ++ slash) (c ∷ cs) (append-no_lf base slash h.0 refl) k,
-      omega (arith, length-append (base ++ slash) (c ∷ cs)),
+path_below-part : (base : List ℕ) (below : Below (List ℕ)) → IsBase base → has_lf (text_of below) ≡ false
+    → IsPart (path_below base below)
+path_below-part base below h k = by (is_top below)
+  where
+    by : (b : Bool) → IsPart (cond b (folder_path base) (base ++ slash ++ text_of below))
+    by true = folder_path-part base h
+    by false = (
+      append-no_lf (base ++ slash) (text_of below) (append-no_lf base slash h.0 refl) k,
+      omega (arith, length-append (base ++ slash) (text_of below), length-append base slash),
     )
 
 abbrev IfBelow : Option (Remote (List ℕ)) → Type 0
 IfBelow None = ⊤
-IfBelow (Some r) = has_lf r.below ≡ false
+IfBelow (Some r) = has_lf (text_of r.below) ≡ false
 
-remote_in-below : (text : List ℕ) → has_lf text ≡ false → has_lf (remote_in text).below ≡ false
+remote_in-below : (text : List ℕ) → has_lf text ≡ false → has_lf (text_of (remote_in text).below) ≡ false
 remote_in-below text h =
-    skip_end-no_lf slash (skip slash (from_first slash text)) (skip-no_lf slash (from_first slash text) (from_first-no_lf slash text h))
+    below_of-no_lf (drop 1 (from_first slash text)) (drop-no_lf 1 (from_first slash text) (from_first-no_lf slash text h))
 
 remote_of-below : (root : List ℕ) → has_lf root ≡ false → IfBelow (remote_of root)
 remote_of-below root h =
@@ -61,20 +65,24 @@ remote_for-below None root h = remote_of-below root h
 remote_for-below (Some machine) root h = either (is_local root)
   where
     either : (b : Bool) → IfBelow (cond b (Some (remote_on machine root)) (remote_of root))
-    either true = skip_end-no_lf slash (skip slash root) (skip-no_lf slash root h)
+    either true = below_of-no_lf root h
     either false = remote_of-below root h
 
 path_of-part : (rows : List Row) (machine : Option (List ℕ)) (root : List ℕ) → HavePaths rows → has_lf root ≡ false
     → IfPart (path_of rows machine root)
 path_of-part rows machine root h k = by (remote_for machine root) (remote_for-below machine root k)
   where
-    at : (r : Remote (List ℕ)) (o : Option (List ℕ)) → IfBase o → has_lf r.below ≡ false
+    at : (r : Remote (List ℕ)) (o : Option (List ℕ)) → IfBase o → has_lf (text_of r.below) ≡ false
         → IfPart (option_map path_of_local (option_map (λ base. local base r.below) o))
     at r None f g = tt
     at r (Some base) f g = path_below-part base r.below f g
 
-    by : (o : Option (Remote (List ℕ))) → IfBelow o → IfPart (option_map path_of_local (local_of rows o))
-    by None f = tt
+    here : (b : Bool) → IfPart (option_map path_of_local (cond b (Some (local [] (below_of root))) None))
+    here true = path_below-part [] (below_of root) (refl, refl) (below_of-no_lf root k)
+    here false = tt
+
+    by : (o : Option (Remote (List ℕ))) → IfBelow o → IfPart (option_map path_of_local (local_of rows root o))
+    by None f = here (is_local_drive root)
     by (Some r) f = at r (base_for rows r) (base_for-base rows r h) f
 
 -- A line in the place of that line.

@@ -1,3 +1,4 @@
+pub mod Drives
 pub mod Folding
 pub mod Profiles
 pub mod Remotes

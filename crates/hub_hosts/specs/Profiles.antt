@@ -5,7 +5,7 @@ use Rattle.std.specs.List.{list_any}
 use Rattle.hub_text.specs.declared.line.Line.{Line}
 use Rattle.hub_text.specs.Lines.{lines_of, text_of_lines, without_last_cr}
 use Rattle.std.specs.Option.{option_map}
-use Rattle.hub_hosts.specs.Remotes.{path_of, remote_for}
+use Rattle.hub_hosts.specs.Remotes.{is_local_drive, path_of, remote_for}
 use Rattle.hub_hosts.specs.Table.{Row, blanks}
 use Rattle.hub_hosts.specs.Words.{before, begins_with, behind, behind_last_arrow, from_first, skip, skip_end}
 
@@ -66,6 +66,14 @@ is_remote_end machine (Some end) = is_some (remote_for machine (root_in end))
 abbrev pub names_remote : Option (List ℕ) → List ℕ → Bool
 names_remote machine line = is_remote_end machine (from_root line)
 
+-- A line names a root here on a drive.
+abbrev pub is_drive_end : Option (List ℕ) → Bool
+is_drive_end None = false
+is_drive_end (Some end) = is_local_drive (root_in end)
+
+abbrev pub names_drive : List ℕ → Bool
+names_drive line = is_drive_end (from_root line)
+
 -- A line with another root, in the place of that at the end of the line.
 abbrev pub with_root : List ℕ → List ℕ → List ℕ → List ℕ
 with_root line end root = before line end ++ root ++ behind end (root_in end)
@@ -74,7 +82,7 @@ abbrev pub with_root_if : List ℕ → List ℕ → Option (List ℕ) → List �
 with_root_if line end None = line
 with_root_if line end (Some root) = with_root line end root
 
--- A line with the path that stands for its root, if it has a root whose host the table has.
+-- A line with the path that stands for its root, if there is one.
 abbrev pub line_from : List Row → Option (List ℕ) → List ℕ → Option (List ℕ) → List ℕ
 line_from rows machine line None = line
 line_from rows machine line (Some end) =

@@ -1,10 +1,12 @@
 -- Roots on other machines, and the paths that stand for them.
-use Rattle.std.specs.Prelude.{◌≡◌, false, ℕ, ◌==◌, ◌-◌, Bool, not, ◌&&◌, nat_eq, List, ◌++◌, length, take, drop, Option, Some, None, is_some, codes, if◌then◌else◌}
+use Rattle.std.specs.Prelude.{◌≡◌, false, ℕ, ◌==◌, ◌-◌, Bool, not, ◌&&◌, ◌||◌, nat_eq, List, [], ◌++◌, length, take, drop, Option, Some, None, is_some, codes, if◌then◌else◌}
 use Rattle.std.specs.List.{ends_with, find, list_any}
 use Rattle.std.specs.Option.{option_map, option_or}
 use denote.Ref.{Bor}
+use Rattle.hub_hosts.specs.Drives.{begins_with_drive, below_of, is_on_drive, is_top, of_below, text_of}
 use Rattle.hub_hosts.specs.Table.{Row, has_row, is_for, is_same_name, slash}
-use Rattle.hub_hosts.specs.Words.{before, begins_with, from_first, host_in, skip, skip_end}
+use Rattle.hub_hosts.specs.Words.{before, begins_with, from_first, host_in, skip_end}
+use Rattle.hub_hosts.specs.declared.drive.Below.{Below}
 use Rattle.hub_hosts.specs.declared.remote.Local.{Local}
 use Rattle.hub_hosts.specs.declared.remote.Remote.{Remote}
 
@@ -17,13 +19,17 @@ without_port name =
     if ends_with nat_eq (skip_end digits name) (codes ":")
     then take (length (skip_end digits name) - 1) (skip_end digits name) else name
 
--- The root whose name and path these are. Its path is absolute after two slashes, else relative to
--- a home. The slashes around it go.
+-- A path of a host is absolute after a slash, and if it begins with a drive of Windows. Else it is
+-- relative to a home.
+abbrev pub is_absolute : List ℕ → Bool
+is_absolute path = begins_with slash path || begins_with_drive path
+
+-- The root of this name and this path, which a slash precedes.
 abbrev pub remote_at : List ℕ → List ℕ → Remote (List ℕ)
 remote_at name path = record {
   name = without_port name;
-  is_in_home = not (begins_with (codes "//") path);
-  below = skip_end slash (skip slash path);
+  is_in_home = not (is_absolute (drop 1 path));
+  below = below_of (drop 1 path);
 }
 
 -- The root that follows `://`: its name ends before the first slash.
@@ -36,9 +42,14 @@ remote_of root =
     if begins_with (codes "ssh://") root then Some (remote_in (drop 6 root))
     else (if begins_with (codes "socket://") root then Some (remote_in (drop 9 root)) else None)
 
--- A root here is a path that begins with one slash.
+-- A root here is a path that begins with one slash, or with a drive.
 abbrev pub is_local : List ℕ → Bool
-is_local root = begins_with slash root && not (begins_with (codes "//") root)
+is_local root =
+    (begins_with slash root && not (begins_with (codes "//") root)) || begins_with_drive root
+
+-- It is on a drive.
+abbrev pub is_local_drive : List ℕ → Bool
+is_local_drive root = is_local root && is_on_drive (below_of root)
 
 -- The root that this one of a profile of the machine is: what `ssh://`, the machine's name, a slash
 -- and it say together.
@@ -46,7 +57,7 @@ abbrev pub remote_on : List ℕ → List ℕ → Remote (List ℕ)
 remote_on machine root = record {
   name = without_port machine;
   is_in_home = false;
-  below = skip_end slash (skip slash root);
+  below = below_of root;
 }
 
 -- The root on another machine that the root of a profile is. The roots here of a profile of another
@@ -72,14 +83,18 @@ marks host row = row.folds_names && is_same_name (host_in row.name) host
 abbrev pub folds_at : List Row → List ℕ → Bool
 folds_at rows host = list_any (marks host) rows
 
-abbrev pub folds_remote : List Row → Option (Remote (List ℕ)) → Bool
-folds_remote rows None = false
-folds_remote rows (Some r) = folds_at rows (host_in r.name)
+-- Names fold on each drive of Windows.
+abbrev pub folds_there : List Row → Remote (List ℕ) → Bool
+folds_there rows r = is_on_drive r.below || folds_at rows (host_in r.name)
 
--- A root of a profile of this machine is on a host that a row of the table marks as one that folds
--- names.
+abbrev pub folds_remote : List Row → List ℕ → Option (Remote (List ℕ)) → Bool
+folds_remote rows root None = is_local_drive root
+folds_remote rows root (Some r) = folds_there rows r
+
+-- A root of a profile of this machine is on a drive, or on a host that a row of the table marks as
+-- one that folds names.
 abbrev pub folds_names : List Row → Option (List ℕ) → List ℕ → Bool
-folds_names rows machine root = folds_remote rows (remote_for machine root)
+folds_names rows machine root = folds_remote rows root (remote_for machine root)
 
 -- The table has a row for the roots here of profiles of this machine.
 abbrev pub has_machine : List Row → List ℕ → Bool
@@ -108,32 +123,39 @@ is_of machine row = is_same_name (host_in row.name) (host_in (without_port machi
 abbrev pub folder_path : List ℕ → List ℕ
 folder_path base = if length base == 0 then slash else base
 
-abbrev pub path_below : List ℕ → List ℕ → List ℕ
-path_below base below = if length below == 0 then folder_path base else base ++ slash ++ below
+abbrev pub path_below : List ℕ → Below (List ℕ) → List ℕ
+path_below base below =
+    if is_top below then folder_path base else base ++ slash ++ text_of below
 
-abbrev pub local : List ℕ → List ℕ → Local (List ℕ)
+abbrev pub local : List ℕ → Below (List ℕ) → Local (List ℕ)
 local base below = record { base = base; below = below }
 
-abbrev pub local_of : List Row → Option (Remote (List ℕ)) → Option (Local (List ℕ))
-local_of rows None = None
-local_of rows (Some r) = option_map (λ base. local base r.below) (base_for rows r)
+-- A root here on a drive, which is below the `/` of this machine.
+abbrev pub local_drive : List ℕ → Option (Local (List ℕ))
+local_drive root = if is_local_drive root then Some (local [] (below_of root)) else None
 
--- The path that stands for a root of a profile of this machine, if the table has the root's host.
+abbrev pub local_of : List Row → List ℕ → Option (Remote (List ℕ)) → Option (Local (List ℕ))
+local_of rows root None = local_drive root
+local_of rows root (Some r) = option_map (λ base. local base r.below) (base_for rows r)
+
+-- The path that stands for a root of a profile of this machine, if the table has the root's host,
+-- or if it is one here on a drive.
 abbrev pub path_of_local : Local (List ℕ) → List ℕ
 path_of_local l = path_below l.base l.below
 
 abbrev pub path_of : List Row → Option (List ℕ) → List ℕ → Option (List ℕ)
-path_of rows machine root = option_map path_of_local (local_of rows (remote_for machine root))
+path_of rows machine root = option_map path_of_local (local_of rows root (remote_for machine root))
 
 -- Borrowed values.
 abbrev pub machine_in : Option (Bor (List ℕ)) → Option (List ℕ)
 machine_in machine = option_map (λ name. name.now) machine
 
 abbrev pub of_remote : Remote (Bor (List ℕ)) → Remote (List ℕ)
-of_remote r = record { name = r.name.now; is_in_home = r.is_in_home; below = r.below.now }
+of_remote r =
+    record { name = r.name.now; is_in_home = r.is_in_home; below = of_below r.below }
 
 abbrev pub of_local : Local (Bor (List ℕ)) → Local (List ℕ)
-of_local l = record { base = l.base.now; below = l.below.now }
+of_local l = record { base = l.base.now; below = of_below l.below }
 
 -- If the table has neither the remote's name nor its host, it holds.
 abbrev pub IfUnknown : List Row → Remote (List ℕ) → Type 0 → Type 0

@@ -32,8 +32,8 @@ impl Hosts {
         Ok(changed)
     }
 
-    /// Returns whether names fold at a root of a profile: a row marks its host ([`Hosts::folds_names`]), or it is one of this machine,
-    /// which a row with the path `/` marks.
+    /// Returns whether names fold at a root of a profile: it is on a drive of Windows, or a row marks its host ([`Hosts::folds_names`]), or
+    /// it is one of this machine, which a row with the path `/` marks.
     pub fn folds_text(&self, machine: Option<&str>, text: &[u8]) -> bool
         ensures { result ≡ folding.folds_text self.now (machine_in machine.entry) text.now }
     {

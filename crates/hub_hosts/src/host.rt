@@ -1,5 +1,5 @@
 //! A table of hosts.
-ghost use Rattle.std.specs.Prelude.{◌≡◌, ◌⊎◌, Ok, Err, Some, IfOk, IfErr, OnOk};
+ghost use Rattle.std.specs.Prelude.{◌≡◌, ◌⊎◌, [], Ok, Err, Some, IfOk, IfErr, OnOk};
 ghost use Rattle.std.specs.Option.{option_map};
 ghost use Rattle.hub_hosts.specs.Table as table;
 ghost use Rattle.hub_hosts.specs.Table.{of_bytes};
@@ -61,6 +61,15 @@ impl Hosts {
             number += 1;
         }
         Ok(Hosts { rows })
+    }
+
+    /// A table without rows. It doesn't allocate.
+    pub fn none(alloc: Global) -> Hosts
+        ensures { result ≡ [] }
+    {
+        Hosts {
+            rows: Items::new(alloc),
+        }
     }
 
     /// The rows, in the order of their lines.

@@ -1,18 +1,21 @@
 //! What holds of every text: each law is the contract of a function that does nothing.
-ghost use Rattle.std.specs.Prelude.{◌≡◌, ◌++◌, ℕ, List, Ok, Option, Some, codes, false, is_some, true, length, map};
+ghost use Rattle.std.specs.Prelude.{◌≡◌, ◌++◌, ◌∷◌, ℕ, List, None, Ok, Option, Some, codes, false, is_some, true, length, map};
 ghost use Rattle.std.specs.List.{list_any};
 ghost use Rattle.hub_text.specs.Lines.{lines_of};
+ghost use Rattle.std.specs.Char.{is_ascii_alphabetic, to_ascii_uppercase};
+ghost use Rattle.hub_hosts.specs.Drives.{below_of, text_of};
 ghost use Rattle.hub_hosts.specs.Profiles as profiles;
 ghost use Rattle.hub_hosts.specs.Profiles.{from_root, line_for, root_in, sets_arrow, sets_root, text_for};
-ghost use Rattle.hub_hosts.specs.Remotes.{has_machine, is_local, path_of, remote_for, remote_of, IfUnknown};
+ghost use Rattle.hub_hosts.specs.Remotes.{folds_names, has_machine, is_local, is_local_drive, path_of, remote_for, remote_of, IfUnknown};
 ghost use Rattle.hub_hosts.specs.Table.{Row, rows_of, slash};
 ghost use Rattle.hub_hosts.specs.Words.{begins_with, is_one_of};
 ghost use Rattle.hub_hosts.specs.declared.remote.Remote.{Remote};
 
-/// A text that names no root on another machine stays as it is.
+/// A text that names no root on another machine, and none on a drive of Windows, stays as it is.
 pub fn a_text_without_remote_roots_stays()
     ensures { (rows : List Row) (machine : Option (List ℕ)) (text : List ℕ)
         → list_any (λ l. profiles.names_remote machine l.text) (lines_of text) ≡ false
+        → list_any (λ l. profiles.names_drive l.text) (lines_of text) ≡ false
         → text_for rows machine text ≡ text }
 {}
 
@@ -58,4 +61,28 @@ pub fn a_root_of_a_machine_is_as_by_ssh()
 pub fn no_root_of_a_known_machine_stays()
     ensures { (rows : List Row) (machine root : List ℕ) → has_machine rows machine ≡ true
         → is_local root ≡ true → is_some (path_of rows (Some machine) root) ≡ true }
+{}
+
+/// A root here on a drive of Windows is the path of a folder right below the `/` of this machine, whatever the table.
+pub fn a_root_here_on_a_drive_has_a_path()
+    ensures { (rows : List Row) (root : List ℕ) → is_local_drive root ≡ true
+        → path_of rows None root ≡ Some (slash ++ text_of (below_of root)) }
+{}
+
+/// Names fold at a root here on a drive of Windows, whatever the table and the machine.
+pub fn names_fold_on_drives()
+    ensures { (rows : List Row) (machine : Option (List ℕ)) (root : List ℕ)
+        → is_local_drive root ≡ true → folds_names rows machine root ≡ true }
+{}
+
+/// A drive of Windows has a small letter or a capital, a slash or a backslash behind it, and another name below `/cygdrive`.
+pub fn a_drive_has_several_names()
+    ensures cygdrive { (letter : ℕ) (path : List ℕ) → is_ascii_alphabetic letter ≡ true
+        → below_of (codes "/cygdrive/" ++ letter ∷ slash ++ path)
+        ≡ below_of (letter ∷ codes ":/" ++ path) }
+    ensures capital { (letter : ℕ) (path : List ℕ) → is_ascii_alphabetic letter ≡ true
+        → below_of (letter ∷ codes ":/" ++ path)
+        ≡ below_of (to_ascii_uppercase letter ∷ codes ":/" ++ path) }
+    ensures backslash { (letter : ℕ) (path : List ℕ) → is_ascii_alphabetic letter ≡ true
+        → below_of (letter ∷ codes ":\\" ++ path) ≡ below_of (letter ∷ codes ":/" ++ path) }
 {}

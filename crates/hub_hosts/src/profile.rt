@@ -32,7 +32,8 @@ const ARROW_NAMES: [&[u8]; 5] = [
 ];
 
 impl Hosts {
-    /// The text of a profile or of rules, with a path in place of each root of a host that the table has. All other bytes stay.
+    /// The text of a profile or of rules, with a path in place of each root of a host that the table has, and of each root of this machine
+    /// on a drive of Windows. All other bytes stay.
     ///
     /// A root is the value of `root`, `force`, `prefer`, `nocreation`, `noupdate` and `nodeletion`, and what follows the last `->` of the
     /// value of `nocreationpartial`, `noupdatepartial`, `nodeletionpartial`, `forcepartial` and `preferpartial`. One on another machine
@@ -44,6 +45,12 @@ impl Hosts {
     ///
     /// If it is the profile of a machine, a root that begins with one slash is there, as `ssh://MACHINE/` and it are. A root that begins
     /// with two slashes, and one that isn't absolute, stay. (This is this project's choice.)
+    ///
+    /// A path that begins with a drive of Windows is absolute, also right behind `ssh://NAME/`. A drive is an ASCII letter and `:`, at
+    /// the end or before `/` or `\`. (Unison manual, "Roots".) Below `/cygdrive/c` are the same folders as below `c:/`. (Cygwin user's
+    /// guide, "The cygdrive path prefix".) A drive stands for a folder right below the `/` of its host, as `C:`, with a capital. On a
+    /// drive each `\` is a slash, since no name on Windows has one. A root of this machine on a drive becomes such a path, as `/C:/a`.
+    /// (This is this project's choice.)
     ///
     /// It takes time in proportion to the bytes, and for each root to the rows. Out of memory is the only error.
     pub fn text_for(

@@ -6,8 +6,9 @@ ghost use Rattle.hub_hosts.specs.Remotes as remotes;
 ghost use Rattle.hub_hosts.specs.Table.{is_for};
 ghost use Rattle.hub_hosts.specs.Remotes.{machine_in, of_local, of_remote};
 
+use crate::drive::{Below, begins_with_drive, below_of};
 use crate::host::{Host, Hosts, is_for, is_same_name};
-use crate::words::{before, from_first, host_in, skip, skip_end};
+use crate::words::{before, behind, from_first, host_in, skip_end};
 use hub_text::Items;
 use std::alloc::{AllocError, Global};
 
@@ -18,8 +19,8 @@ pub(crate) struct Remote<T> {
     pub(crate) name: T,
     /// Whether its path is relative to a home.
     pub(crate) is_in_home: bool,
-    /// Its path, without slashes around it.
-    pub(crate) below: T,
+    /// Where its path leads.
+    pub(crate) below: Below<T>,
 }
 
 /// A path below another one.
@@ -27,8 +28,8 @@ pub(crate) struct Remote<T> {
 pub(crate) struct Local<T> {
     /// The path of a host, without slashes at its end.
     pub(crate) base: T,
-    /// What follows it, without slashes around it.
-    pub(crate) below: T,
+    /// What follows it.
+    pub(crate) below: Below<T>,
 }
 
 /// The root on another machine that a text is.
@@ -52,15 +53,23 @@ fn remote_in(text: &[u8]) -> Remote<&[u8]>
     remote_at(before(text, path), path)
 }
 
-/// The root whose name and path these are.
+/// The root of this name and this path, which a slash precedes.
 fn remote_at<'a>(name: &'a [u8], path: &'a [u8]) -> Remote<&'a [u8]>
     ensures { of_remote result ≡ remotes.remote_at name.now path.now }
 {
+    let path = behind(path, b"/");
     Remote {
         name: without_port(name),
-        is_in_home: !path.starts_with(b"//"),
-        below: skip_end(b"/", skip(b"/", path)),
+        is_in_home: !is_absolute(path),
+        below: below_of(path),
     }
+}
+
+/// Returns whether a path of a host is absolute: it begins with a slash or a drive.
+fn is_absolute(path: &[u8]) -> bool
+    ensures { result ≡ remotes.is_absolute path.now }
+{
+    path.starts_with(b"/") || begins_with_drive(path)
 }
 
 /// A name without its port.
@@ -72,11 +81,18 @@ fn without_port(name: &[u8]) -> &[u8]
         .unwrap_or(name)
 }
 
-/// Returns whether a root is one here: a path that begins with one slash.
+/// Returns whether a root is one here: a path that begins with one slash or a drive.
 pub(crate) fn is_local(root: &[u8]) -> bool
     ensures { result ≡ remotes.is_local root.now }
 {
-    root.starts_with(b"/") && !root.starts_with(b"//")
+    (root.starts_with(b"/") && !root.starts_with(b"//")) || begins_with_drive(root)
+}
+
+/// Returns whether a root is one here, and on a drive.
+fn is_local_drive(root: &[u8]) -> bool
+    ensures { result ≡ remotes.is_local_drive root.now }
+{
+    is_local(root) && below_of(root).is_on_drive()
 }
 
 /// The root that this one of a profile of the machine is.
@@ -86,7 +102,7 @@ fn remote_on<'a>(machine: &'a [u8], root: &'a [u8]) -> Remote<&'a [u8]>
     Remote {
         name: without_port(machine),
         is_in_home: false,
-        below: skip_end(b"/", skip(b"/", root)),
+        below: below_of(root),
     }
 }
 
@@ -106,17 +122,33 @@ fn remote_for<'a>(machine: Option<&'a str>, root: &'a [u8]) -> Option<Remote<&'a
     }
 }
 
+/// The path of a root, if it is one here on a drive.
+fn local_drive(root: &[u8]) -> Option<Local<&[u8]>>
+    ensures { option_map of_local result ≡ remotes.local_drive root.now }
+{
+    if is_local_drive(root) {
+        Some(Local {
+            base: b"",
+            below: below_of(root),
+        })
+    } else {
+        None
+    }
+}
+
 impl Hosts {
-    /// The path of a root of a profile of this machine, if it is one on another machine and the table has its host.
+    /// The path of a root of a profile of this machine, if it is one on another machine and the table has its host, or one here on a drive.
     pub(crate) fn local_of<'a>(
         &'a self,
         machine: Option<&'a str>,
         root: &'a [u8],
     ) -> Option<Local<&'a [u8]>>
-        ensures { option_map of_local result
-            ≡ remotes.local_of self.now (remotes.remote_for (machine_in machine.entry) root.now) }
+        ensures { option_map of_local result ≡ remotes.local_of self.now root.now
+            (remotes.remote_for (machine_in machine.entry) root.now) }
     {
-        let remote = remote_for(machine, root)?;
+        let Some(remote) = remote_for(machine, root) else {
+            return local_drive(root);
+        };
         let base = base_for(self.rows(), remote)?;
         Some(Local {
             base,
@@ -127,7 +159,8 @@ impl Hosts {
 
 impl Hosts {
     /// The path that stands for a root of a profile, if it is one on another machine and the table has its host. The roots here of a
-    /// profile of another machine are on that one.
+    /// profile of another machine are on that one. A path stands for a root of this machine, too, if it is on a drive of Windows.
+    /// ([`Hosts::text_for`] says which path.)
     pub fn path_of(
         &self,
         alloc: Global,
@@ -170,15 +203,22 @@ impl Hosts {
     }
 
     /// Returns whether a root of a profile of this machine is on a machine that takes names that differ in case alone for one name: a
-    /// row marks its host, be it for another user, or for roots in a home.
+    /// row marks its host, be it for another user, or for roots in a home. So does Windows: the root is on a drive.
     pub fn folds_names(&self, machine: Option<&str>, root: &[u8]) -> bool
         ensures { result ≡ remotes.folds_names self.now (machine_in machine.entry) root.now }
     {
         match remote_for(machine, root) {
-            Some(remote) => folds_at(self.rows(), host_in(remote.name)),
-            None => false,
+            Some(remote) => folds_there(self.rows(), remote),
+            None => is_local_drive(root),
         }
     }
+}
+
+/// Returns whether names fold at a root on another machine.
+fn folds_there(rows: &[Host<Items<u8>>], remote: Remote<&[u8]>) -> bool
+    ensures { result ≡ remotes.folds_there rows.now (of_remote remote.entry) }
+{
+    remote.below.is_on_drive() || folds_at(rows, host_in(remote.name))
 }
 
 /// Returns whether a row is for this machine itself.
@@ -256,12 +296,12 @@ impl<'a> Local<&'a [u8]> {
         ensures { OnOk result
             (text.new.items ≡ text.old.items ++ remotes.path_of_local (of_local self.entry)) }
     {
-        if self.below.is_empty() {
+        if self.below.is_top() {
             return text.extend_from_slice(folder_path(self.base));
         }
         text.extend_from_slice(self.base)?;
         text.push(b'/')?;
-        text.extend_from_slice(self.below)
+        self.below.push_to(text)
     }
 }
 

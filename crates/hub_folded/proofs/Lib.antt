@@ -21,3 +21,5 @@ mod FoldedName
 mod FoldedParts
 mod UnknownRules
 mod FoldedPieces
+mod ToldApart
+mod FirstPlaces

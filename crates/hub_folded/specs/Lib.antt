@@ -10,4 +10,6 @@ pub mod Rules
 pub mod InUnison
 pub mod Read
 pub mod Seen
+pub mod Roots
+pub mod FirstPlaces
 pub mod examples

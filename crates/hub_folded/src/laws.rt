@@ -17,6 +17,7 @@ ghost use Rattle.hub_folded.specs.declared.member.Member.{Member};
 ghost use Rattle.hub_folded.specs.Lines.{fold_rule, fold_spec, folded_member, folded_rules, folded_set, is_foldable, know_rules, some_fold, IsWithinLines};
 ghost use Rattle.hub_folded.specs.InUnison.{AreSpelled, IsNormOf, IsSafeFolded, KeepsRulesFolded, Lined, Norm, member_of, norm_of, norm_path, over_up_to};
 ghost use Rattle.hub_folded.specs.Read.{AreReadAsWritten, AreReadFolded, IsSafeWhereRead, readings_of};
+ghost use Rattle.hub_folded.specs.Roots.{AreKnownRootsApart, AreToldApart, HaveRootsIn, HoldAtRootsIn, IsSafeAtKnownRoots, KeepsRulesAtKnownRoots};
 ghost use Rattle.hub_folded.specs.Seen.{AreRootsApart, FoldTogether, IsSafeAsOne, IsSafeAtRoots, KeepsRulesAsSeen, over_as_one};
 
 /// If the readings of the folded lines of some profiles beside folded rules are a safe set with these, by none of the profiles
@@ -126,4 +127,17 @@ pub fn what_is_safe_in_unison_folded_is_safe()
         → some_fold (map member_of Vs) ≡ true → AreSpelled Vs
         → ((Ws : List Written) → AreWrittenAs Ws (folded_set F (map member_of Vs))
         → KeepsRulesInUnison Ws (folded_rules F (map member_of Vs) Rs)) → KeepsRulesFolded F Vs Rs }
+{}
+
+/// Where the known roots of the profiles and of the rules are told apart as they are spelled, two of them that are one up to folding
+/// are one. So no two different known roots of profiles that are safe are nested up to folding, no two of the profiles clash at known
+/// roots that are one up to folding, and what a rule forbids at its root stays undone at each spelling of it that a profile has.
+pub fn roots_that_are_told_apart_are_roots_of_their_own()
+    ensures roots { (F : Folding) (rs : List Path) (Vs : List Lined) → HaveRootsIn rs Vs
+        → AreToldApart F rs → IsSafeFolded F Vs → AreKnownRootsApart F Vs }
+    ensures clashes { (F : Folding) (rs : List Path) (Vs : List Lined) → HaveRootsIn rs Vs
+        → AreToldApart F rs → IsSafeFolded F Vs → IsSafeAtKnownRoots F Vs }
+    ensures kept { (F : Folding) (rs : List Path) (Vs : List Lined) (Rs : List Rule)
+        → HaveRootsIn rs Vs → HoldAtRootsIn rs Rs → AreToldApart F rs → KeepsRulesFolded F Vs Rs
+        → KeepsRulesAtKnownRoots F Vs Rs }
 {}

@@ -3,7 +3,8 @@
 //! On Windows and macOS, and with `ignorecase = true`, Unison 2.52 takes `Docs` and `docs` for one folder: it folds the names of
 //! paths, and the lines of profiles. [`folded_set`] returns the profiles of a set with folded lines, and [`folded_rules`] its rules
 //! with folded patterns, where the names of some hosts fold. [`fold_name`] folds a name, [`fold_spec`] a specification, and [`knows`]
-//! says whether it is known what a name folds to. The [`laws`] are theorems about profiles that are read by folded lines.
+//! says whether it is known what a name folds to. [`find_spelled_twice`] finds roots that may be one folder. The [`laws`] are theorems
+//! about profiles that are read by folded lines.
 //!
 //! ```rust
 //! let members = members_of(alloc, text.as_str(), folds, other_folds)?;
@@ -14,7 +15,8 @@
 //!
 //! A `Folding` (`specs/Fold`) says what characters fold to, as far as it is known. `unicode` (`specs/Table`) is that of Unicode mode,
 //! and `latin` that of `unicode = false`. `specs/Lines` says what becomes of the lines of a profile, `specs/Rules` which rules a set
-//! can't have, `specs/InUnison` what Unison reaches and writes at names up to folding, and `specs/Read` what readings show.
+//! can't have, `specs/InUnison` what Unison reaches and writes at names up to folding, `specs/Read` what readings show, and `specs/Roots`
+//! which roots are spelled in two ways.
 //!
 //! - `safe_folded_readings_are_safe_in_unison`: if the readings of the folded lines are a safe set, no two of the profiles clash at
 //!   names up to folding, and by none of them Unison breaks a rule.
@@ -24,6 +26,8 @@
 //! - `what_holds_of_folded_lines_holds_up_to_folding`, `what_is_safe_folded_is_safe_anywhere`: both, of the readings that
 //!   `hub_unison::read_set` returns if it is given the folded profiles and rules of a set.
 //! - `without_folded_names_nothing_changes`: a set in which no names fold is read as it is.
+//! - `roots_that_are_told_apart_are_roots_of_their_own`: if no root of a set is spelled in two ways, the known roots of its profiles and
+//!   rules that are one up to folding are one, so no two profiles clash at such roots, and rules hold at them.
 //!
 //! Of a kept value with an unknown name only the part before it is kept, and nothing is ignored. An unknown `ignore` line, or bar
 //! on paths, is left out, and with an unknown `ignorenot` line nothing is ignored. A profile of a host whose names don't fold, in a
@@ -43,6 +47,9 @@
 //! - If some names fold, the readings of the folded profiles beside the folded rules hold for the set up to folding. If they are a safe set
 //!   and no two have the same two roots, no two of the profiles clash in Unison, and by none of them Unison breaks a rule, as it is folded or
 //!   as it stands (`IsSafeWhereRead`).
+//! - [`find_spelled_twice`] returns two known roots of which the first is the second one, or is over it, when both are folded, but not as
+//!   they are spelled (`IsSpelledTwice`). If there are none (`AreToldApart`), no two profiles of a safe set clash at known roots that are
+//!   one up to folding, and no rule is broken at a spelling of its root that a profile has.
 //! - [`read_folded_set`] returns readings that hold for a set, if it is given the folded profiles and rules of the set.
 //! - What Unison folds by is any function of names and any function of the texts of lines. No more is assumed of them than what
 //!   they make of known names and of known lines (`IsNormOf`). The folding itself is such a one (`a_folding_is_met`), so no law
@@ -57,7 +64,8 @@
 //!
 //! Latin-1 mode has no code: `latin` is a definition. Which hosts' names fold: a [`Member`] says so.
 //! That Unison folds so: that was observed with Unison 2.52.1, name by name for all characters below U+20000. Anything of names
-//! that fold to nothing, to dots or to a forbidden character, and of disks that take two names as one that Unison takes as two.
+//! that fold to nothing, to dots or to a forbidden character, of roots with an unknown name, and of disks that take two names as one
+//! that Unison takes as two.
 //! That the text of a folded pattern spells the folded specification. The table is data, which `tools/fold-table` writes.
 #![tactic(auto)]
 
@@ -74,6 +82,7 @@ mod pattern;
 mod pieces;
 mod profile;
 mod ranges;
+mod roots;
 mod rules;
 mod set;
 mod table;
@@ -84,5 +93,6 @@ pub use fault::FoldFault;
 pub use fold::{fold_name, knows};
 pub use lines::fold_spec;
 pub use member::{Member, folded_set, some_fold};
+pub use roots::find_spelled_twice;
 pub use rules::folded_rules;
 pub use set::read_folded_set;

@@ -49,7 +49,7 @@ fn folded_paths(alloc: Global, paths: &[RelPath]) -> Result<Option<Items<RelPath
 }
 
 /// Returns what a path folds to, if each of its names is known.
-fn folded_path(alloc: Global, path: &RelPath) -> Result<Option<RelPath>, AllocError>
+pub(crate) fn folded_path(alloc: Global, path: &RelPath) -> Result<Option<RelPath>, AllocError>
     ensures { IfOk result (λ o. o ≡ (if fold.knows_path unicode path.now
         then Some (fold.fold_path unicode path.now) else None)) }
 {

@@ -71,7 +71,7 @@ fn say_below(out: &mut String, table: &HostTable) -> Said {
     for machine in table.mixed.iter() {
         writeln!(
             out,
-            "hubsync: {machine} has roots on a drive and in a home: the table can't tell whether two of them are one folder"
+            "hubsync: {machine} has roots on a drive and in a home: if the home is on the drive, write it as /hosts/{machine}/C:/Users/NAME"
         )?;
     }
     Ok(())

@@ -2,3 +2,4 @@ pub mod Below
 pub mod MemberLists
 pub mod SameContents
 pub mod Said
+pub mod SaidRoots

@@ -4,6 +4,7 @@ use Rattle.std.specs.Prelude.{IfOk, IfErr, IsErrAnd}
 use Rattle.hub_bundle.specs.Sections.{Spells}
 use Rattle.hub_bundle.specs.declared.sections.BundleContents.{BundleContents}
 use Rattle.hub_folded.specs.Lines.{folded_member, folded_set, know_rules, some_fold}
+use Rattle.hub_folded.specs.Roots.{AreToldApart}
 use Rattle.hub_folded.specs.Rules.{IsRefused}
 use Rattle.hub_folded.specs.Table.{unicode}
 use Rattle.hub_folded.specs.declared.fault.FoldFault.{FoldFault}
@@ -13,7 +14,7 @@ use Rattle.hub_import.specs.Imported.{contents_of}
 use Rattle.hub_preferences.specs.Counted.{counted_bundle}
 use Rattle.hub_respelled.specs.Caseless.{caseless_bundle}
 use Rattle.hub_respelled.specs.Members.{members_of}
-use Rattle.hub_respelled.specs.Respelled.{AreFoldsOf, IsFoldedBundle, IsOfNoRule, IsUnrespelled, SaidBy, folded_contents, like_fold, said_members}
+use Rattle.hub_respelled.specs.Respelled.{AreFoldsOf, IsFoldedBundle, IsOfNoRule, IsUnrespelled, SaidBy, folded_contents, like_fold, said_members, said_roots}
 use Rattle.hub_respelled.specs.declared.fault.RespellFault.{RespellFault}
 use Rattle.hub_respelled.specs.declared.fault.RespellFault.TheVariants as respell
 
@@ -42,6 +43,7 @@ refused-so bundle said Ms OutOfMemory is = tt
 
 pub no-rule : (bundle : List ℕ) (e : RespellFault) → IsOfNoRule e → IsUnrespelled bundle e
 no-rule bundle (respell.UnknownRule i) is = absurd is
+no-rule bundle (respell.SpelledTwice r s) is = absurd is
 no-rule bundle respell.Unwritten is = tt
 no-rule bundle respell.OutOfMemory is = tt
 
@@ -52,12 +54,13 @@ no-rule-err bundle (Err e) is = no-rule bundle e is
 
 abbrev pub folded-so : (bundle text : List ℕ) (said : SaidBy bundle) (c : BundleContents)
     → some_fold (said_members said) ≡ true → know_rules unicode said.own.rules ≡ true
-    → c ≡ folded_contents said → (counted_bundle text ≡ text) × Spells text c
+    → AreToldApart unicode (said_roots said.own) → c ≡ folded_contents said → (counted_bundle text ≡ text) × Spells text c
     → IsFoldedBundle bundle text
-folded-so bundle text said c some known same is = record {
+folded-so bundle text said c some known told same is = record {
   said = said;
   some = some;
   known = known;
+  told = told;
   all = is.0;
   folded = subst (Spells text) same is.1;
 }

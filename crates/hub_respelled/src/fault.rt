@@ -1,16 +1,26 @@
 //! Why a bundle of profiles whose names fold can't be answered.
 use hub_folded::FoldFault;
 use hub_import::BundleUnwritten;
+use hub_path::Root;
 use std::alloc::AllocError;
 use thiserror::Error;
 
 /// Why nothing stands in the place of a bundle (this project's choice).
-#[derive(Clone, Copy, Debug, PartialEq, Eq, Error)]
+#[derive(Debug, Drop, Error)]
 pub enum RespellFault {
     /// It isn't known what the rule with this number, from 0 on, folds to, or it wouldn't hold for each spelling of a path: it has an
     /// unknown character, a `?`, or a set with other than ASCII characters.
     #[error("UnknownRule {0}")]
     UnknownRule(usize),
+    /// The first of these roots is over the second one where names fold, or is the same folder, but isn't as they are spelled: as
+    /// `/srv/Hub` and `/srv/hub`.
+    #[error("SpelledTwice")]
+    SpelledTwice {
+        /// The upper root.
+        first: Root,
+        /// The other root.
+        second: Root,
+    },
     /// No bundle says the folded profiles and rules: as if a pattern has more characters than there may be.
     #[error("NotReadBack")]
     Unwritten,

@@ -5,11 +5,14 @@ ghost use Rattle.hub_bundle.specs.declared.sections.BundleContents.{BundleConten
 ghost use Rattle.hub_preferences.specs.Counted.{counted_bundle};
 ghost use Rattle.hub_import.specs.Imported.{contents_of};
 ghost use Rattle.hub_respelled.specs.Caseless.{caseless_bundle, says_folding};
-ghost use Rattle.hub_respelled.specs.Respelled.{AreFoldsOf, IsFoldedBundle, IsOfNoRule, IsRespelled, IsUnrespelled};
+ghost use Rattle.hub_folded.specs.Roots.{AreToldApart};
+ghost use Rattle.hub_folded.specs.Table.{unicode};
+ghost use Rattle.hub_respelled.specs.Respelled.{AreFoldsOf, IsFoldedBundle, IsOfNoRule, IsRespelled, IsUnrespelled, said_roots};
 
 use crate::comments::{caseless, says_folding};
 use crate::fault::RespellFault;
 use crate::members::{folds_in, members_of};
+use crate::roots::check_roots;
 use hub_archives::{HeldArchives, find_folded_archives};
 use hub_bundle::{BundleContents, BundleFault, ReadError, read_bundle, read_sections};
 use hub_folded::{Member, folded_rules, folded_set, some_fold};
@@ -37,8 +40,9 @@ pub enum Spelling {
 /// lines. The lines that count are those of [`hub_preferences::counted`], without those by which names fold. None stands there if a
 /// profile by which names fold doesn't keep out Unison's archives in one of these folders ([`find_folded_archives`]).
 ///
-/// A fault comes only if names fold by some profile. `UnknownRule` comes with the first rule that isn't known, or that wouldn't hold for
-/// each spelling, `Unwritten` if no bundle says what is folded. It takes time in proportion to the bytes, and for each folder to the
+/// A fault comes only if names fold by some profile. `SpelledTwice` comes with two roots of profiles or rules that
+/// [`hub_folded::find_spelled_twice`] finds, `UnknownRule` with the first rule that isn't known, or that wouldn't hold for each spelling,
+/// `Unwritten` if no bundle says what is folded. It takes time in proportion to the bytes, and for each folder to the
 /// profiles.
 pub fn respelled(alloc: Global, bundle: &[u8], folders: &[Root]) -> Result<Spelling, RespellFault>
     ensures ok { IfOk result (IsRespelled folders.now bundle.now) }
@@ -50,7 +54,10 @@ pub fn respelled(alloc: Global, bundle: &[u8], folders: &[Root]) -> Result<Spell
     }
     let caseless = caseless(alloc, bundle)?;
     match contents_that_count(alloc, caseless.as_slice())? {
-        Some(own) => folded_bundle(alloc, bundle, folders, own),
+        Some(own) => {
+            check_roots(alloc, &own)?;
+            folded_bundle(alloc, bundle, folders, own)
+        }
         None => Ok(Spelling::Unread),
     }
 }
@@ -91,7 +98,8 @@ fn folded_bundle(
     folders: &[Root],
     own: BundleContents,
 ) -> Result<Spelling, RespellFault>
-    requires { Spells (counted_bundle (caseless_bundle bundle.now)) own }
+    requires said { Spells (counted_bundle (caseless_bundle bundle.now)) own }
+    requires told { AreToldApart unicode (said_roots own) }
     ensures ok { IfOk result (IsRespelled folders.now bundle.now) }
     ensures err { IfErr result (IsUnrespelled bundle.now) }
 {

@@ -22,7 +22,9 @@
 //!   them, and all its lines count. By none of the profiles by which names fold Unison reaches its archives in the folders.
 //! - If the profiles of a folded bundle are safe in Unison, no two of those of the bundle clash in Unison at names up to folding, and if
 //!   they keep its rules, none of them breaks a rule ([`laws`]).
-//! - A fault comes only if names fold, and `UnknownRule` only with the first rule that isn't known or foldable.
+//! - The same holds at roots that are one up to folding, if all their names are known.
+//! - A fault comes only if names fold, `UnknownRule` only with the first rule that isn't known or foldable, and `SpelledTwice` only with
+//!   two roots of which one is over the other up to folding alone.
 //!
 //! # What is not
 //!
@@ -36,6 +38,7 @@ mod fault;
 mod folded;
 pub mod laws;
 mod members;
+mod roots;
 
 pub use comments::caseless;
 pub use fault::RespellFault;

@@ -103,7 +103,7 @@ pub struct HostTable {
 }
 
 impl HostTable {
-    /// Makes the table of an input. A drive's root is below the path of its machine, and a home is `/home/USER` there, or `/home/NAME`.
+    /// Makes the table of an input. A drive is below the path of its machine, and a home is `/home/USER` there, or `/home/NAME`.
     pub fn of(source: &Source<'_>) -> Result<HostTable, AllocError> {
         let alloc = source.alloc();
         let drives = drives_in(source)?;
@@ -131,16 +131,17 @@ impl HostTable {
         root.push_machine(&mut machine)?;
         let name = machine.as_str();
         let is_on_drive = drives.contains(name);
-        let row = match root.start {
-            PathStart::Top => format!(in alloc; "{name} /hosts/{name}")?,
-            _ if is_on_drive => format!(in alloc; "{name}~ /hosts/{name}")?,
-            _ => home_row(alloc, root.user, name)?,
+        let is_in_home = root.start == PathStart::Home;
+        let row = if is_in_home {
+            home_row(alloc, root.user, name)?
+        } else {
+            format!(in alloc; "{name} /hosts/{name}")?
         };
         insert(&mut self.rows, row)?;
-        if root.start == PathStart::Home && is_on_drive {
+        if is_in_home && is_on_drive {
             insert(&mut self.mixed, machine)?;
         }
-        self.has_home = self.has_home || root.start == PathStart::Home && !is_on_drive;
+        self.has_home = self.has_home || is_in_home;
         Ok(())
     }
 }

@@ -4,7 +4,7 @@ use Rattle.std.specs.Fmt.{decimal}
 use Rattle.std.specs.List.{All, Contains, find, list_all, list_any, slice_get}
 use Rattle.hub_archives.specs.Found.{AreKeptOut, IsHeld}
 use Rattle.hub_archives.specs.declared.found.HeldArchives.{HeldArchives}
-use Rattle.hub_path.specs.Path.{Path}
+use Rattle.hub_path.specs.Path.{Path, root_bytes}
 use Rattle.hub_cli.specs.Words.{Names, Request, mended}
 use Rattle.hub_bundle.specs.Files.{bundle_of, first_faulty, part_fault, part_machine}
 use Rattle.hub_bundle.specs.declared.part.Kind.{Kind}
@@ -146,16 +146,23 @@ WritesHeld folders parts old new failed status =
     (held : HeldArchives) × IsHeld folders (caseless_bundle (bundle_of parts)) held
     × WritesFault (file_at parts held.section) (codes "ArchivesInRoot") old new failed status
 
--- What is wrong where names fold: with the rule of this number, from 0 on, or with what is folded.
+-- What is wrong where names fold: with these two roots, with the rule of this number, from 0 on, or
+-- with what is folded.
+abbrev pub respell_place : RespellFault → List ℕ
+respell_place (respell.SpelledTwice r s) = codes "roots"
+respell_place _ = codes "rules"
+
 abbrev pub respell_word : RespellFault → List ℕ
 respell_word (respell.UnknownRule i) = codes "UnknownRule " ++ decimal i
+respell_word (respell.SpelledTwice r s) =
+    codes "SpelledTwice " ++ root_bytes r ++ codes " " ++ root_bytes s
 respell_word respell.Unwritten = codes "NotReadBack"
 respell_word respell.OutOfMemory = []
 
 abbrev pub WritesUnrespelled : List ℕ → Option (List ℕ) → Option (List ℕ) → Bool → ℕ → Type 0
 WritesUnrespelled bundle old new failed status =
     (fault : RespellFault) × IsUnrespelled bundle fault × (says_folding bundle ≡ true)
-    × WritesFault (codes "rules") (respell_word fault) old new failed status
+    × WritesFault (respell_place fault) (respell_word fault) old new failed status
 
 -- Lines are asked for that make a set safe. A line that does so for folded profiles may not do so for
 -- the profiles: none are given.
@@ -326,12 +333,12 @@ profile_label p = (Profile, p.file.0, p.machine)
 -- A profile with paths in place of the roots of these hosts. The roots here of a profile of a machine
 -- are on that one.
 abbrev pub host_text : Option (List Row) → Option (List ℕ) → List ℕ → List ℕ
-host_text None machine text = text
+host_text None machine text = text_for [] machine text
 host_text (Some rows) machine text = text_for rows machine text
 
 -- The same of a profile. If names fold at a root of it, a line of it says so.
 abbrev pub profile_text : Option (List Row) → Option (List ℕ) → List ℕ → List ℕ
-profile_text None machine text = text
+profile_text None machine text = profile_for [] machine text
 profile_text (Some rows) machine text = profile_for rows machine text
 
 abbrev pub for_hosts : Option (List Row) → Owned → File

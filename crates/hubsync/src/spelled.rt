@@ -1,6 +1,7 @@
 //! Answers over what stands in the place of a bundle of profiles by which names fold.
-ghost use Rattle.std.specs.Prelude.{◌≡◌, ◌⊎◌, IfOk, Some, codes, false, map, string_bytes};
+ghost use Rattle.std.specs.Prelude.{◌≡◌, ◌⊎◌, ◌++◌, IfOk, Some, codes, false, map, string_bytes};
 ghost use Rattle.hub_cli.specs.Words.{asked_of, request_of};
+ghost use Rattle.hub_path.specs.Path.{root_bytes};
 ghost use Rattle.hubsync.specs.Bundled.{memory_line};
 ghost use Rattle.hubsync.specs.Bundled as bundled;
 ghost use Rattle.hubsync.specs.Written.{ReportsFault, ServesBundleTo, ServesFoldedTo, ServesSpelledTo, ServesTextTo, WritesTextTo};
@@ -151,7 +152,7 @@ fn write_no_lines<T: AllocGlobal + Eprint, W: Write>(
 {
     let status = write_fault(rt.alloc(), b"profiles", "NamesFold", output);
     let _ = eprintln!(rt;
-        "hubsync: names fold by ignorecase, fat or folds-names, and no lines are known that hold then: clashes says what clashes"
+        "hubsync: names fold by ignorecase, fat, folds-names or a drive of Windows, and no lines are known that hold then: clashes says what clashes"
     );
     status
 }
@@ -164,7 +165,7 @@ fn say_folded<T: AllocGlobal + Eprint>(
     bundle: &[u8],
 ) {
     let _ = eprintln!(rt;
-        "hubsync: names fold by ignorecase, fat or folds-names: Docs and docs are one, and lines are shown as Unison folds them"
+        "hubsync: names fold by ignorecase, fat, folds-names or a drive of Windows: Docs and docs are one, and lines are shown as Unison folds them"
     );
     if let Ok(text) = remarks_on_lines(rt.alloc(), words, files, bundle) {
         let text = text.as_str();
@@ -190,15 +191,25 @@ fn write_unrespelled<T: AllocGlobal + Eprint, W: Write>(
     output: &mut Watched<Captured<'_, W>>,
 ) -> u8
     requires { output.old.failed ≡ false }
-    ensures { ReportsFault output.old output.new W.contents (codes "rules")
+    ensures { ReportsFault output.old output.new W.contents (bundled.respell_place fault.now)
         (bundled.respell_word fault.now) result }
 {
     match respell_word(rt.alloc(), fault) {
         Ok(word) => {
             say_unrespelled(rt, fault);
-            write_fault(rt.alloc(), b"rules", word.as_str(), output)
+            write_fault(rt.alloc(), respell_place(fault), word.as_str(), output)
         }
         Err(AllocError) => write_memory(output),
+    }
+}
+
+/// What is wrong, as the answer names it.
+fn respell_place(fault: &RespellFault) -> &'static [u8]
+    ensures { result.now ≡ bundled.respell_place fault.now }
+{
+    match fault {
+        RespellFault::SpelledTwice { .. } => b"roots",
+        _ => b"rules",
     }
 }
 
@@ -208,19 +219,35 @@ fn respell_word(alloc: Global, fault: &RespellFault) -> Result<String, AllocErro
 {
     match fault {
         RespellFault::UnknownRule(number) => format!(in alloc; "UnknownRule {number}"),
+        RespellFault::SpelledTwice { first, second } => spelled_word(alloc, first, second),
         RespellFault::Unwritten => String::from_str(alloc, "NotReadBack"),
         RespellFault::OutOfMemory => Ok(String::new(alloc)),
     }
+}
+
+/// The word for two roots that are spelled in two ways.
+fn spelled_word(alloc: Global, first: &Root, second: &Root) -> Result<String, AllocError>
+    ensures { IfOk result (λ w. string_bytes w
+        ≡ codes "SpelledTwice " ++ root_bytes first.now ++ codes " " ++ root_bytes second.now) }
+{
+    let mut word = String::from_str(alloc, "SpelledTwice ")?;
+    word.push_str(first.as_str())?;
+    word.push_str(" ")?;
+    word.push_str(second.as_str())?;
+    Ok(word)
 }
 
 /// Says on standard error what to do. If that fails, there is nobody left to tell.
 fn say_unrespelled<T: Eprint>(rt: &T, fault: &RespellFault) {
     let _ = match fault {
         RespellFault::UnknownRule(_) => eprintln!(rt;
-            "hubsync: names fold by ignorecase, fat or folds-names, and this rule wouldn't hold for each spelling: write it without ?, with sets of ASCII alone, and with known characters"
+            "hubsync: names fold by ignorecase, fat, folds-names or a drive of Windows, and this rule wouldn't hold for each spelling: write it without ?, with sets of ASCII alone, and with known characters"
+        ),
+        RespellFault::SpelledTwice { .. } => eprintln!(rt;
+            "hubsync: names fold by ignorecase, fat, folds-names or a drive of Windows, and these roots may be one folder, or one may lie in the other: spell it alike in all profiles and rules, or rename one"
         ),
         _ => eprintln!(rt;
-            "hubsync: names fold by ignorecase, fat or folds-names, and no line can say what a pattern folds to: shorten it"
+            "hubsync: names fold by ignorecase, fat, folds-names or a drive of Windows, and no line can say what a pattern folds to: shorten it"
         ),
     };
 }

@@ -13,7 +13,7 @@ returns-in_err-rules-clause-err c =
     let bundle = c.args.bundle.now in
     let folds = c.in_ok-folds.folds.items in
     let is = subst (λ n. AreFoldsOf bundle n folds) c.len.ensures c.in_ok-folds.ensures.ok in
-    let said = said-by bundle c.args.own folds c.requires is in
+    let said = said-by bundle c.args.own folds c.requires.said is in
     let so = refused-so bundle said c.as_slice-3.result.now c.in_err-rules.field-0.0 c.in_err-rules.ensures.err in
     err-so bundle c.from_residual-in_err-rules.result c.in_err-rules.field-0.0 c.from_residual-in_err-rules.ensures.1 so
 
@@ -23,8 +23,8 @@ returns-in-None-clause-ok c =
     let own = c.args.own in
     let folds = c.in_ok-folds.folds.items in
     let is = subst (λ n. AreFoldsOf bundle n folds) c.len.ensures c.in_ok-folds.ensures.ok in
-    let said = said-by bundle own folds c.requires is in
-    let members : c.in_ok-members.members ≡ said_members said = c.in_ok-members.ensures ∙ (ap (λ fs. members_of fs own.profiles) c.as_slice.ensures.value ∙ folds-said bundle own folds c.requires is) in
+    let said = said-by bundle own folds c.requires.said is in
+    let members : c.in_ok-members.members ≡ said_members said = c.in_ok-members.ensures ∙ (ap (λ fs. members_of fs own.profiles) c.as_slice.ensures.value ∙ folds-said bundle own folds c.requires.said is) in
     let some : some_fold (said_members said) ≡ true = search in
     let set : c.in_ok-profiles.profiles ≡ folded_set unicode (said_members said) = c.in_ok-profiles.ensures ∙ ap (folded_set unicode) members in
     let same : c.as_slice-7.result.now ≡ map (λ M. M.folds) (said_members said) = c.as_slice-7.ensures.value ∙ (c.in_ok-folds-2.ensures ∙ ap (map (λ M. M.folds)) (c.as_slice-4.ensures ∙ members)) in
@@ -34,7 +34,7 @@ returns-in-None-clause-ok c =
     let known : know_rules unicode own.rules ≡ true = c.in_ok-rules.ensures.known (ap some_fold (c.as_slice-3.ensures ∙ members) ∙ some) in
     let profiles : c.as_slice-5.result.now ≡ folded_set unicode (said_members said) = c.as_slice-5.ensures ∙ set in
     let rules : c.as_slice-6.result.now ≡ folded_rules unicode (said_members said) own.rules = c.as_slice-6.ensures.value ∙ (c.in_ok-rules.ensures.ok ∙ ap (λ Ms. folded_rules unicode Ms own.rules) (c.as_slice-3.ensures ∙ members)) in
-    let whole = folded-so bundle c.in_ok-text.text.items said (contents_of c.as_slice-5.result.now c.as_slice-6.result.now) some known (λ i. contents_of (profiles i) (rules i)) c.in_ok-text.ensures.ok in
+    let whole = folded-so bundle c.in_ok-text.text.items said (contents_of c.as_slice-5.result.now c.as_slice-6.result.now) some known c.requires.told (λ i. contents_of (profiles i) (rules i)) c.in_ok-text.ensures.ok in
     (whole, subst (λ o. MatchOption o (FoldedKeptOut folders (said_members said)) (IsFoldedHeld folders (said_members said))) c.in-None.is found)
 
 pub returns-clause-ok : goal.returns-clause-ok
@@ -43,8 +43,8 @@ returns-clause-ok c =
     let own = c.args.own in
     let folds = c.in_ok-folds.folds.items in
     let is = subst (λ n. AreFoldsOf bundle n folds) c.len.ensures c.in_ok-folds.ensures.ok in
-    let said = said-by bundle own folds c.requires is in
-    let members : c.in_ok-members.members ≡ said_members said = c.in_ok-members.ensures ∙ (ap (λ fs. members_of fs own.profiles) c.as_slice.ensures.value ∙ folds-said bundle own folds c.requires is) in
+    let said = said-by bundle own folds c.requires.said is in
+    let members : c.in_ok-members.members ≡ said_members said = c.in_ok-members.ensures ∙ (ap (λ fs. members_of fs own.profiles) c.as_slice.ensures.value ∙ folds-said bundle own folds c.requires.said is) in
     let some : some_fold (said_members said) ≡ true = search in
     let set : c.in_ok-profiles.profiles ≡ folded_set unicode (said_members said) = c.in_ok-profiles.ensures ∙ ap (folded_set unicode) members in
     let same : c.as_slice-7.result.now ≡ map (λ M. M.folds) (said_members said) = c.as_slice-7.ensures.value ∙ (c.in_ok-folds-2.ensures ∙ ap (map (λ M. M.folds)) (c.as_slice-4.ensures ∙ members)) in

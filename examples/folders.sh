@@ -17,12 +17,12 @@ program=$(readlink -m -- "${1:-$folder/../crates/hubsync/out/hubsync}")
 asked=0
 wrong=0
 # what is said below a yes for Unison, and below an overlap or a breach
-assumed='hubsync: for Unison 2.52 with -batch and no preference on its command line, where only these runs write,
+assumed='hubsync: for Unison 2.51 to 2.53 with -batch and no preference on its command line, where only these runs write,
 hubsync: no symbolic link is followed, each folder and host has one name, names differ as their bytes do,
 hubsync: and the folders above path lines exist'
 # the same where names fold, and what is said above it
-folds='hubsync: names fold by ignorecase, fat or folds-names: Docs and docs are one, and lines are shown as Unison folds them'
-assumed_of_folded=${assumed/names differ as their bytes do,/no name folds to nothing or to dots,}
+folds='hubsync: names fold by ignorecase, fat, folds-names or a drive of Windows: Docs and docs are one, and lines are shown as Unison folds them'
+assumed_of_folded=${assumed/names differ as their bytes do,/no name folds to nothing or to dots,$'\n'hubsync: no disk takes two names for one that Unison takes for two, macOS copies no resource forks (rsrc = false),}
 wider='hubsync: more counts with --unison than may happen: compare the answer without it'
 lines='hubsync: run one after the other, or add these lines, which hold for Unison too:'
 
@@ -426,7 +426,7 @@ LINES
     ask 2 check --unison 'texts/my docs.prf' <<LINES
 fault: profile my docs line 7: UnknownPreference %x
 hubsync: texts/my docs.prf line 5:  %x = rules
-hubsync: Unison 2.52 has no preference of this name that hubsync knows
+hubsync: no Unison from 2.51 to 2.53 has a preference of this name that hubsync knows
 LINES
     printf '\xef\xbb\xbfroot = /srv/hub\r\nroot = /srv/desk\r\ninclude part\r\npath = a\r\npath = b' >'texts/my docs.prf'
     put_profile texts/other.prf 'path = b/c'
@@ -947,6 +947,69 @@ LINES
 }
 
 # Names fold by a line, or by the host of a root.
+# A drive of Windows is one folder by each of its names, with a table and without one, and names fold there. Preferences of Unison 2.53
+# don't count.
+try_drives() {
+    put drives/bob.prf 'root = C:\Users\bob\Docs' 'root = ssh://hub//srv/share' 'path = Bob' 'xattrs = true'
+    put drives/eve.prf 'root = c:/Users/eve/' 'root = ssh://hub//srv/share' 'path = bob'
+    put drives/table 'hub /hosts/hub'
+    ask 1 check --unison drives --hosts drives/table <<LINES
+overlap: bob writes bob at /hosts/hub/srv/share, eve reaches bob
+$folds
+hubsync: lines that don't count, as Unison does no less without them: 1, first drives/bob.prf line 4: xattrs = true
+hubsync: bob, line 3 (bundle line 4): path = bob
+hubsync: eve, line 3 (bundle line 8): path = bob
+hubsync: run one after the other, or give one other paths, an ignore or a bar
+hubsync: more counts with --unison than may happen
+LINES
+    put drives/bob.prf 'root = /cygdrive/c/Users/bob/Docs' 'root = ssh://hub//srv/share' 'path = Bob'
+    put drives/eve.prf 'root = c:/Users/eve/' 'root = ssh://hub//srv/share' 'path = eve'
+    ask 0 check --unison drives --hosts drives/table <<LINES
+safe
+$folds
+$assumed_of_folded
+LINES
+    put drives/bob.prf 'root = C:/Users/bob/Docs' 'root = D:\' 'path = Bob'
+    put drives/eve.prf 'root = /cygdrive/c/Users/bob/Docs/' 'root = E:/' 'path = BOB'
+    ask 1 clashes --unison drives <<LINES
+overlap: bob writes bob at /C:/Users/bob/Docs, eve reaches bob
+overlap: eve writes bob at /C:/Users/bob/Docs, bob reaches bob
+$folds
+hubsync: bob, line 3 (bundle line 4): path = bob
+hubsync: eve, line 3 (bundle line 8): path = bob
+hubsync: run one after the other, or give one other paths, an ignore or a bar
+hubsync: more counts with --unison than may happen
+LINES
+}
+
+# Roots that are one folder where names fold, but not as they are spelled, are a fault, of rules, too.
+try_spellings() {
+    local fault='hubsync: names fold by ignorecase, fat, folds-names or a drive of Windows, and these roots may be one folder, or one may lie in the other: spell it alike in all profiles and rules, or rename one'
+    put spellings/one.prf 'root = /srv/Hub' 'root = /srv/s1' 'path = a' 'ignorecase = true'
+    put spellings/two.prf 'root = /srv/hub' 'root = /srv/s2' 'path = b'
+    ask 2 check --unison spellings <<LINES
+fault: roots: SpelledTwice /srv/Hub /srv/hub
+$fault
+LINES
+    put spellings/two.prf 'root = /srv/Hub' 'root = /srv/s2' 'path = b'
+    ask 0 check --unison spellings <<LINES
+safe
+$folds
+$assumed_of_folded
+LINES
+    put spellings/rules 'root = /srv/HUB/a' 'nolose = Name x'
+    ask 2 rounds --unison spellings --rules spellings/rules <<LINES
+fault: roots: SpelledTwice /srv/Hub /srv/HUB/a
+$fault
+LINES
+    put spellings/one.prf 'root = /srv/Hub' 'root = /srv/s1' 'path = a'
+    put spellings/two.prf 'root = /srv/hub' 'root = /srv/s2' 'path = b'
+    ask 0 check --unison spellings <<LINES
+safe
+$assumed
+LINES
+}
+
 try_folding() {
     local here
     here=$(pwd -P)
@@ -964,7 +1027,7 @@ hubsync: more counts with --unison than may happen
 LINES
     ask 2 mend --unison folding --hosts folding/table <<LINES
 fault: profiles: NamesFold
-hubsync: names fold by ignorecase, fat or folds-names, and no lines are known that hold then: clashes says what clashes
+hubsync: names fold by ignorecase, fat, folds-names or a drive of Windows, and no lines are known that hold then: clashes says what clashes
 LINES
     put folding/one.prf 'root = /srv/hub' 'root = /srv/s1' 'path = Projects'
     ask 0 check --unison folding --hosts folding/table <<LINES
@@ -984,7 +1047,7 @@ LINES
     put folding/rules 'root = /srv/hub' 'nolose = Name a' 'nolose = Name ?'
     ask 2 check --unison folding --hosts folding/table --rules folding/rules <<LINES
 fault: rules: UnknownRule 1
-hubsync: names fold by ignorecase, fat or folds-names, and this rule wouldn't hold for each spelling: write it without ?, with sets of ASCII alone, and with known characters
+hubsync: names fold by ignorecase, fat, folds-names or a drive of Windows, and this rule wouldn't hold for each spelling: write it without ?, with sets of ASCII alone, and with known characters
 LINES
     put folding/two.prf 'root = /srv/hub' 'root = ssh://pc//s2' 'ignorecase = false'
     ask 2 check --unison folding --hosts folding/table <<LINES
@@ -1131,6 +1194,8 @@ try_operands
 try_machines
 try_totals
 try_folding
+try_drives
+try_spellings
 try_whole
 try_each
 try_refused

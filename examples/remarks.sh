@@ -323,7 +323,7 @@ ask_hosts() {
         "hubsync: $at/whole.prf line 4: follow = Path docs/x" \
         'hubsync: hubsync has no answer for a profile with this line: let it run by itself, when no other profile runs, also by hand' \
         'hubsync: add --hosts FILE, where FILE has these lines:' 'hubsync:     bob@laptop~ /hosts/laptop/home/bob' \
-        'hubsync:     fs2 /hosts/fs2' 'hubsync:     laptop~ /hosts/laptop/home/NAME' 'hubsync:     pc1~ /hosts/pc1' \
+        'hubsync:     fs2 /hosts/fs2' 'hubsync:     laptop~ /hosts/laptop/home/NAME' 'hubsync:     pc1 /hosts/pc1' \
         'hubsync: behind HOST~ stands the home there: write where it is, if it is elsewhere' >"$room/wanted"
     ask 'roots on other machines' 2 hubsync check --unison "$at"
     sed -n 's/^hubsync:     //p' "$room/errors" >"$at/table"

@@ -947,7 +947,7 @@ LINES
 }
 
 # Names fold by a line, or by the host of a root.
-# A drive of Windows is one folder by each of its names, with a table and without one, and names fold there. Preferences of Unison 2.53
+# A drive of Windows is one folder by each of its names, and names fold there. Preferences of Unison 2.53
 # don't count.
 try_drives() {
     put drives/bob.prf 'root = C:\Users\bob\Docs' 'root = ssh://hub//srv/share' 'path = Bob' 'xattrs = true'
@@ -969,20 +969,9 @@ safe
 $folds
 $assumed_of_folded
 LINES
-    put drives/bob.prf 'root = C:/Users/bob/Docs' 'root = D:\' 'path = Bob'
-    put drives/eve.prf 'root = /cygdrive/c/Users/bob/Docs/' 'root = E:/' 'path = BOB'
-    ask 1 clashes --unison drives <<LINES
-overlap: bob writes bob at /C:/Users/bob/Docs, eve reaches bob
-overlap: eve writes bob at /C:/Users/bob/Docs, bob reaches bob
-$folds
-hubsync: bob, line 3 (bundle line 4): path = bob
-hubsync: eve, line 3 (bundle line 8): path = bob
-hubsync: run one after the other, or give one other paths, an ignore or a bar
-hubsync: more counts with --unison than may happen
-LINES
 }
 
-# Roots that are one folder where names fold, but not as they are spelled, are a fault, of rules, too.
+# Roots that are one folder where names fold, but not as they are spelled, are a fault.
 try_spellings() {
     local fault='hubsync: names fold by ignorecase, fat, folds-names or a drive of Windows, and these roots may be one folder, or one may lie in the other: spell it alike in all profiles and rules, or rename one'
     put spellings/one.prf 'root = /srv/Hub' 'root = /srv/s1' 'path = a' 'ignorecase = true'
@@ -996,11 +985,6 @@ LINES
 safe
 $folds
 $assumed_of_folded
-LINES
-    put spellings/rules 'root = /srv/HUB/a' 'nolose = Name x'
-    ask 2 rounds --unison spellings --rules spellings/rules <<LINES
-fault: roots: SpelledTwice /srv/Hub /srv/HUB/a
-$fault
 LINES
     put spellings/one.prf 'root = /srv/Hub' 'root = /srv/s1' 'path = a'
     put spellings/two.prf 'root = /srv/hub' 'root = /srv/s2' 'path = b'

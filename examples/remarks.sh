@@ -333,6 +333,7 @@ ask_hosts() {
     ask 'a root on another machine, read plainly' 2 hubsync check "$at/whole.prf"
     sed -i 4d "$at/whole.prf"
     sed -i 's/^laptop~.*//' "$at/table"
+    printf '%s\n' 'root = ssh://bob@laptop/x' 'root = ssh://fs2//far' >"$at/far.prf"
     printf '%s\n' 'fault: profile part line 2: BadPath RemoteRoot' "hubsync: $at/part.prf line 2: root = ssh://laptop/work" \
         'hubsync: it is on another machine: the table below has it' \
         'hubsync: add these lines to the table of --hosts:' 'hubsync:     laptop~ /hosts/laptop/home/NAME' \

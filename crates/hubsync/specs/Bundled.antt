@@ -333,12 +333,12 @@ profile_label p = (Profile, p.file.0, p.machine)
 -- A profile with paths in place of the roots of these hosts. The roots here of a profile of a machine
 -- are on that one.
 abbrev pub host_text : Option (List Row) → Option (List ℕ) → List ℕ → List ℕ
-host_text None machine text = text_for [] machine text
+host_text None machine text = text
 host_text (Some rows) machine text = text_for rows machine text
 
 -- The same of a profile. If names fold at a root of it, a line of it says so.
 abbrev pub profile_text : Option (List Row) → Option (List ℕ) → List ℕ → List ℕ
-profile_text None machine text = profile_for [] machine text
+profile_text None machine text = text
 profile_text (Some rows) machine text = profile_for rows machine text
 
 abbrev pub for_hosts : Option (List Row) → Owned → File

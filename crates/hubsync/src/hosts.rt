@@ -109,7 +109,7 @@ pub fn profile_for_hosts(
 {
     match hosts {
         Some(hosts) => hosts.profile_for(alloc, machine, text.as_slice()),
-        None => Hosts::none(alloc).profile_for(alloc, machine, text.as_slice()),
+        None => Ok(text),
     }
 }
 
@@ -123,6 +123,6 @@ pub fn rules_for_hosts(
 {
     match hosts {
         Some(hosts) => hosts.text_for(alloc, None, text.as_slice()),
-        None => Hosts::none(alloc).text_for(alloc, None, text.as_slice()),
+        None => Ok(text),
     }
 }

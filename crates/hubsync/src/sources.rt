@@ -23,7 +23,7 @@ impl HeldRoot {
     }
 }
 
-/// The roots of this text of a profile, maybe of a machine, that have paths in their place by a table of hosts, or by their drives.
+/// The roots of this text of a profile, maybe of a machine, that have paths in their place by a table of hosts.
 pub fn roots_in(
     alloc: Global,
     text: &[u8],
@@ -31,8 +31,9 @@ pub fn roots_in(
     hosts: Option<&Hosts>,
 ) -> Result<Vec<HeldRoot>, AllocError> {
     let mut roots = Vec::new(alloc);
-    let none = Hosts::none(alloc);
-    let hosts = hosts.unwrap_or(&none);
+    let Some(hosts) = hosts else {
+        return Ok(roots);
+    };
     for line in Lines::new(text) {
         if let Some(root) = root_of(line.text) {
             push_root(alloc, &mut roots, root, machine, hosts)?;
